@@ -1,0 +1,13 @@
+pub mod Below
+pub mod Counts
+pub mod Refusals
+pub mod Field
+pub mod Plan
+pub mod Graph
+pub mod Table
+pub mod Contention
+pub mod Rules
+pub mod ListRule
+pub mod BusRule
+pub mod Answers
+pub mod Examples

@@ -1,0 +1,72 @@
+-- Document 01, "Rules of a good table", twice: as facts that hold of every task, edge, pair and phase (`Good`), and as
+-- the first refusal in the order 12, 13, 14, 15 (`broken`).
+-- Laws: proofs/Rules.antt. Assumes nothing.
+use Prim.Native.Nat.{ℕ, _+_, _*_, _/_, _≤_, _<_, min, max}
+use mathlib.Core.Path.{_≡_}
+use mathlib.Core.Bool.{Bool, _&&_}
+use lib.Dec.{ltb, eqb}
+use Rattle.model.specs.Below.{maxBelow}
+use Rattle.model.specs.Counts.{delay}
+use Rattle.model.specs.Refusals.{refusal, refuseIf, orElse, firstBad}
+use Rattle.model.specs.Plan.{Plan, tasks, edges, cost, source, target}
+use Rattle.model.specs.Table.{Table}
+use Rattle.model.specs.Contention.{Phases, phasesOf, rivals}
+use Rattle.model.specs.declared.Bus.{Bus}
+use Rattle.model.specs.declared.Fault.the-variants.{ExecuteShort, ReadEarly, SpansCross, WindowShort}
+use Rattle.model.specs.declared.Side.the-variants.{OfTable}
+use Rattle.model.specs.declared.Check.{Check}
+
+-- the delay of phase x, with its counted rivals
+unfoldable pub delayAt : Bus → Phases → ℕ → ℕ
+delayAt b h x = delay b (h .words x) (rivals b h x)
+
+pub record Good (p : Plan) (t : Table) : Type 0 where
+  -- "Execute windows last at least C."
+  pub executes : (i : ℕ) → i < tasks p → t .E i + cost p i ≤ t .W i
+  -- "Each edge's target has R no earlier than its source's F."
+  pub follows : (e : ℕ) → e < edges p → t .F (source p e) ≤ t .R (target p e)
+  -- "Spans [R, F) on one core share no time."
+  pub apart :
+      (i j : ℕ) → i < j → j < tasks p → t .core i ≡ t .core j
+      → (x : ℕ) → t .R i ≤ x → x < t .F i → t .R j ≤ x → x < t .F j → ⊥
+  -- "Each read and write window lasts at least its delay."
+  pub lasts :
+      (x : ℕ) → x < 2 * tasks p
+      → phasesOf p t .start x + delayAt (p .bus) (phasesOf p t) x ≤ phasesOf p t .end x
+
+-- ---- the same as checks, each at the field that document 01 names
+-- 12 "execute window shorter than C": the task's field
+unfoldable pub executeAt : Plan → Table → ℕ → Check
+executeAt p t i = refuseIf (ltb (t .W i) (t .E i + cost p i)) (refusal ExecuteShort OfTable (20 * i))
+
+-- 13 "target reads before its source has ended": the target's field
+unfoldable pub edgeAt : Plan → Table → ℕ → Check
+edgeAt p t e = refuseIf (ltb (t .R (target p e)) (t .F (source p e))) (refusal ReadEarly OfTable (20 * target p e))
+
+-- 14 "two spans cross on one core": the higher task's field; two spans share time from the later start to the earlier end
+unfoldable pub crossing : ℕ → ℕ → ℕ → ℕ → ℕ → ℕ → Bool
+crossing c r f c' r' f' = eqb c c' && ltb (max r r') (min f f')
+
+unfoldable pub crossAt : Table → ℕ → ℕ → Check
+crossAt t i j =
+    refuseIf (ltb i j && crossing (t .core i) (t .R i) (t .F i) (t .core j) (t .R j) (t .F j))
+    (refusal SpansCross OfTable (20 * j))
+
+abbrev pub crossFrom : Plan → Table → ℕ → Check
+crossFrom p t i = firstBad (crossAt t i) (tasks p)
+
+-- 15 "read or write window shorter than its delay": the task's field
+unfoldable pub windowAt : Bus → Phases → ℕ → Check
+windowAt b h x = refuseIf (ltb (h .end x) (h .start x + delayAt b h x)) (refusal WindowShort OfTable (20 * (x / 2)))
+
+-- "Then 12 (lowest task), 13 (first edge), 14 (pairs by lower task, then higher), 15 (lowest task, read before write)."
+unfoldable pub broken : Plan → Table → Check
+broken p t =
+    orElse (firstBad (executeAt p t) (tasks p))
+    (orElse (firstBad (edgeAt p t) (edges p))
+    (orElse (firstBad (crossFrom p t) (tasks p))
+    (firstBad (windowAt (p .bus) (phasesOf p t)) (2 * tasks p))))
+
+-- "makespan (greatest F, or 0 with no tasks)"
+abbrev pub makespan : ℕ → Table → ℕ
+makespan n t = maxBelow (t .F) n
