@@ -1,0 +1,87 @@
+-- The laws of the delay rule: its form with a word's time, that it grows with rivals and words, and the bounds that keep
+-- it in 32 bits. Assumes nothing.
+use mathlib.Core.Path.{_≡_, ap}
+use Prim.Native.Nat.{ℕ, _+_, _*_, _-_, _/_, _%_, _≤_, _<_}
+use native.Mathlib.Nat.{div-add-mod', div-le-self, mod-lt, mul-le-mul, mul-le-mul-left, mul-le-mul-right, div-lt-iff-lt-mul, le-div-iff-mul-le, div-mul-le-self, div-eq-of-lt, zero-div, zero-mod, le-trans}
+use native.Mathlib.Omega.{arith}
+use Rattle.model.specs.Counts.{T, D, wordTime, slots, full, delay, Settings}
+use Rattle.model.specs.declared.Bus.{Bus}
+
+-- T·full + (w mod D)·(T/D) = w·(T/D), when D divides T
+parts : (t d w : ℕ) → t % d ≡ 0 → t * (w / d) + w % d * (t / d) ≡ w * (t / d)
+parts t d w h =
+    let e : t / d * d ≡ t = omega (arith, div-add-mod' t d) in
+    omega (arith, ap (λ (x : ℕ). x * (w / d)) e, ap (λ (x : ℕ). x * (t / d)) (div-add-mod' w d))
+
+-- w words, in slots of d
+up-le : (d w : ℕ) → (w + (d - 1)) / d ≤ w + (d - 1)
+up-le d w = div-le-self _ _
+
+module _ (b : Bus) where
+  pub own-time : T b % D b ≡ 0 → (w : ℕ) → T b * full b w + w % D b * (T b / D b) ≡ w * wordTime b
+  unfolding full wordTime
+  own-time h w = parts (T b) (D b) w h
+
+  pub delay-is : T b % D b ≡ 0 → (w k : ℕ) → delay b w k ≡ T b * slots b w * k + w * wordTime b
+  unfolding delay
+  delay-is h w k = omega (arith, own-time h w)
+
+  -- slots hold the words, and one slot less would not
+  pub slots-hold : 1 ≤ D b → (w : ℕ) → w ≤ slots b w * D b
+  unfolding slots
+  slots-hold h w =
+      let q = div-add-mod' (w + (D b - 1)) (D b) in
+      let r = mod-lt (w + (D b - 1)) h in
+      omega (arith, q, r)
+
+  pub slots-least : 1 ≤ D b → (w n : ℕ) → w ≤ n * D b → slots b w ≤ n
+  unfolding slots
+  slots-least h w n l = omega (arith, div-lt-iff-lt-mul {k = D b} {x = w + (D b - 1)} {y = n + 1} h .1 (omega arith))
+
+  -- ---- it grows with the rivals and with the words
+  pub delay-rivals : (w k l : ℕ) → k ≤ l → delay b w k ≤ delay b w l
+  unfolding delay
+  delay-rivals w k l h = omega (arith, mul-le-mul-left (T b * slots b w) h)
+
+  pub slots-grow : 1 ≤ D b → (w v : ℕ) → w ≤ v → slots b w ≤ slots b v
+  unfolding slots
+  slots-grow h w v l = le-div-iff-mul-le h .1 (le-trans (div-mul-le-self (w + (D b - 1)) (D b)) (omega arith))
+
+  pub delay-words : T b % D b ≡ 0 → 1 ≤ D b → (w v k : ℕ) → w ≤ v → delay b w k ≤ delay b v k
+  delay-words h p w v k l =
+      rw (delay-is h w k, delay-is h v k)
+      (omega (arith, mul-le-mul-right k (mul-le-mul-left (T b) (slots-grow p w v l)), mul-le-mul-right (wordTime b) l))
+
+  -- no words, no delay
+  pub delay-none : 1 ≤ D b → (k : ℕ) → delay b 0 k ≡ 0
+  unfolding delay slots full
+  delay-none h k =
+      let none : (0 + (D b - 1)) / D b ≡ 0 = div-eq-of-lt (omega arith) in
+      rw (none, zero-div (D b), zero-mod (D b)) (omega arith)
+
+  -- ---- each part at its greatest: 256 edges of 4,095 words, 7 rivals
+  pub slots-most : D b ≤ 64 → (w : ℕ) → w ≤ 1048320 → slots b w ≤ 1048383
+  unfolding slots
+  slots-most h w l = omega (arith, up-le (D b) w)
+
+  module _ (s : Settings b) (w : ℕ) (l : w ≤ 1048320) where
+    pub part-slots : T b * slots b w ≤ 67096512
+    part-slots = mul-le-mul (s .time-most) (slots-most (s .words-most) w l)
+
+    pub part-waiting : (k : ℕ) → k ≤ 7 → T b * slots b w * k ≤ 469675584
+    part-waiting k h = mul-le-mul part-slots h
+
+    pub part-whole : T b * full b w ≤ 67092480
+    unfolding full
+    part-whole = mul-le-mul (s .time-most) (le-trans (div-le-self w (D b)) l)
+
+    pub part-rest : w % D b * (T b / D b) ≤ 4096
+    part-rest =
+        let r : w % D b ≤ 64 = omega (arith, mod-lt w (s .words-some), s .words-most) in
+        let q : T b / D b ≤ 64 = omega (arith, div-le-self (T b) (D b), s .time-most) in
+        mul-le-mul r q
+
+    -- the whole is below 2^30
+    pub delay-fits : (k : ℕ) → k ≤ 7 → delay b w k < 1073741824
+    unfolding delay
+    delay-fits k h = omega (arith, part-waiting k h, part-whole, part-rest)

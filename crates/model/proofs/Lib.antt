@@ -1,0 +1,4 @@
+pub mod Tests
+pub mod Below
+pub mod Counts
+pub mod Refusals
