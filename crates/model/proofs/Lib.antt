@@ -2,3 +2,5 @@ pub mod Tests
 pub mod Below
 pub mod Counts
 pub mod Refusals
+pub mod Field
+pub mod Plan

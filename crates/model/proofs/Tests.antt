@@ -15,6 +15,11 @@ pub taking {ℓ} : {A : Type ℓ} {C : Type 0} (b : Bool) {x y z : A} → cond b
 taking true e f g = f refl e
 taking false e f g = g refl e
 
+-- of a `cond`, by its test
+pub cond-is {ℓ} : {A : Type ℓ} (P : A → Type 0) (b : Bool) {x y : A} → (b ≡ true → P x) → (b ≡ false → P y) → P (cond b x y)
+cond-is P true f g = f refl
+cond-is P false f g = g refl
+
 pub conflict : {C : Type 0} {b : Bool} → b ≡ true → b ≡ false → C
 conflict p q = absurd (false≢true (sym q ∙ p))
 

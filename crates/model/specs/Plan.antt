@@ -2,13 +2,14 @@
 -- strictly by (source, target)." Document 01, "Plan and table bytes", and refusals 1 to 6: "the first bad field decides;
 -- inside it: header cut, tag, length, body cut, 6, 4, 5".
 -- Laws: proofs/Plan.antt. Assumes nothing.
-use Prim.Native.Nat.{ℕ, zero, suc, _+_, _*_, _-_, _%_}
+use mathlib.Core.Path.{_≡_}
+use Prim.Native.Nat.{ℕ, zero, suc, _+_, _*_, _-_, _%_, _≤_, _<_}
 use mathlib.Core.List.{List, [], _∷_, _++_}
 use mathlib.Core.Bool.{Bool, cond, not, _&&_, _||_}
 use lib.ListN.{length}
 use lib.Dec.{ltb, leb, eqb}
 use Rattle.model.specs.Below.{at}
-use Rattle.model.specs.Counts.{T, D}
+use Rattle.model.specs.Counts.{Settings}
 use Rattle.model.specs.Refusals.{refusal}
 use Rattle.model.specs.Field.{two, planStep}
 use Rattle.model.specs.declared.Bus.{Bus}
@@ -52,13 +53,26 @@ target p e = at (p .targets) e
 abbrev pub amount : Plan → ℕ → ℕ
 amount p e = at (p .amounts) e
 
+-- the numbers by which edges rise: by source, then by target
+abbrev pub keyOf : ℕ → ℕ → ℕ
+keyOf from to = 256 * from + to
+
+-- what holds of a plan that bytes are, apart from cycles (proofs/Plan.antt, `plan-valid`)
+pub record Valid (p : Plan) : Type 0 where
+  pub settings : Settings (p .bus)
+  pub few-tasks : tasks p ≤ 64
+  pub few-edges : edges p ≤ 256
+  pub costs-some : (i : ℕ) → i < tasks p → 1 ≤ cost p i
+  pub targets-all : length (p .targets) ≡ edges p
+  pub amounts-all : length (p .amounts) ≡ edges p
+  pub sources-known : (e : ℕ) → e < edges p → source p e < tasks p
+  pub targets-known : (e : ℕ) → e < edges p → target p e < tasks p
+  pub amounts-most : (e : ℕ) → amount p e ≤ 4095
+  pub rising : (e : ℕ) → e + 1 < edges p → keyOf (source p e) (target p e) < keyOf (source p (e + 1)) (target p (e + 1))
+
 -- ---- one field
 abbrev broken : Fault → ℕ → Taken
 broken fault place = Refused (refusal fault OfPlan place)
-
--- the numbers by which edges rise
-abbrev pub keyOf : ℕ → ℕ → ℕ
-keyOf source target = 256 * source + target
 
 -- "cores 1..8, T 1..64, D 1..64, D divides T"
 unfoldable pub settingsGood : ℕ → ℕ → ℕ → Bool
