@@ -132,6 +132,17 @@ pub count-zero : (p : ℕ → Bool) (n : ℕ) → countBelow p n ≤ 0 → (i : 
 count-zero p n h i l =
     either (p i) (λ t. absurd (omega (arith, h, sum-ge (λ j. bit (p j)) n i l, ap bit t))) (λ t. t)
 
+pub count-all : (p : ℕ → Bool) (n : ℕ) → ((i : ℕ) → i < n → p i ≡ true) → countBelow p n ≡ n
+count-all p n h = sum-same (λ i. bit (p i)) (λ i. 1) n (λ i l. ap bit (h i l)) ∙ sum-count n
+
+pub count-found : (p : ℕ → Bool) (n : ℕ) → 0 < countBelow p n → (i : ℕ) × (i < n) × (p i ≡ true)
+unfolding joinBelow
+count-found p zero h = absurd (omega arith)
+count-found p (suc n) h =
+    either (p n)
+    (λ t. (n, omega arith, t))
+    (λ t. let r = count-found p n (omega (arith, ap bit t)) in (r .0, omega (arith, r .1), r .2))
+
 pub count-same : (p q : ℕ → Bool) (n : ℕ) → ((i : ℕ) → i < n → p i ≡ q i) → countBelow p n ≡ countBelow q n
 count-same p q n h = sum-same (λ i. bit (p i)) (λ i. bit (q i)) n (λ i l. ap bit (h i l))
 

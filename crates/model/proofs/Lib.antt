@@ -4,3 +4,5 @@ pub mod Counts
 pub mod Refusals
 pub mod Field
 pub mod Plan
+pub mod Descent
+pub mod Graph

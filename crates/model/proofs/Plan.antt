@@ -12,7 +12,7 @@ use borrow.Author.Tests.{ltb-true, ltb-false, leb-true, leb-false, le-leb, eqb-t
 use Rattle.model.specs.Below.{at}
 use Rattle.model.specs.Counts.{T, D, Settings}
 use Rattle.model.specs.Field.{two, planBody, planStep}
-use Rattle.model.specs.Plan.{Plan, Valid, Reading, tasks, edges, cores, cost, source, target, amount, keyOf, settingsGood, inOrder, headerIn, taskIn, edgeIn, fieldBy, fieldOf, noPlan, withBus, withTask, withEdge, leastKey, seen, onWith, fieldsFrom, readingFrom, readingOf}
+use Rattle.model.specs.Plan.{Plan, Columns, Valid, Reading, tasks, edges, cores, cost, source, target, amount, keyOf, settingsGood, inOrder, headerIn, taskIn, edgeIn, fieldBy, fieldOf, noPlan, withBus, withTask, withEdge, leastKey, seen, onWith, fieldsFrom, readingFrom, readingOf}
 use Rattle.model.specs.declared.Bus.{Bus}
 use Rattle.model.specs.declared.Side.the-variants.{OfPlan}
 use Rattle.model.specs.declared.Refusal.{Refusal}
@@ -196,3 +196,170 @@ module _ (bytes : List ℕ) where
       on-same bytes (seen place p) p (fieldsFrom (length bytes) bytes) (fieldsFrom (suc (length bytes)) bytes)
       (λ next q h m. enough (length bytes) (suc (length bytes)) next q m (omega arith) (omega arith))
       (fieldOf bytes (seen place p)) (took bytes (seen place p))
+
+-- ---- what holds of a plan that was read
+-- one more at the end of a list
+pub snoc-length : (l : List ℕ) (x : ℕ) → length (l ++ (x ∷ [])) ≡ length l + 1
+snoc-length l x = length-append l (x ∷ [])
+
+pub snoc-old : (l : List ℕ) (x i : ℕ) → i < length l → at (l ++ (x ∷ [])) i ≡ at l i
+snoc-old l x i h = List·getD-append l (x ∷ []) 0 i h
+
+pub snoc-new : (l : List ℕ) (x i : ℕ) → i ≡ length l → at (l ++ (x ∷ [])) i ≡ x
+snoc-new l x i e = rw e (getD-at l x [] 0 (length l) refl)
+
+snoc-most : (l : List ℕ) (x b : ℕ) → ((i : ℕ) → at l i ≤ b) → x ≤ b → (i : ℕ) → at (l ++ (x ∷ [])) i ≤ b
+snoc-most [] x b h k zero = k
+snoc-most [] x b h k (suc i) = zero-le
+snoc-most (a ∷ l) x b h k zero = h zero
+snoc-most (a ∷ l) x b h k (suc i) = snoc-most l x b (λ j. h (suc j)) k i
+
+-- each entry of a list with one more fulfils what the old ones and the new one fulfil
+snoc-each : (P : ℕ → Type 0) (l : List ℕ) (x : ℕ) → ((i : ℕ) → i < length l → P (at l i)) → P x → (i : ℕ) → i < length (l ++ (x ∷ [])) → P (at (l ++ (x ∷ [])) i)
+snoc-each P l x h k i m =
+    lt-or-ge i (length l) (λ o. rw (snoc-old l x i o) (h i o)) (λ o. rw (snoc-new l x i (omega (arith, snoc-length l x))) k)
+
+-- the plan so far, up to a place
+pub record Partly (place : ℕ) (p : Plan) : Type 0 where
+  pub fresh : ltb 0 (cores p) ≡ false → (place ≡ 0) × (tasks p ≡ 0) × (edges p ≡ 0)
+  pub started : ltb 0 (cores p) ≡ true → Settings (p .bus) × (place ≡ 6 + 5 * tasks p + 7 * edges p)
+  pub columns : Columns p
+
+pub partly-none : Partly 0 noPlan
+partly-none =
+    record {
+      fresh = λ _. (refl, refl, refl);
+      started = λ e. conflict e refl;
+      columns =
+          record {
+            few-tasks = omega arith;
+            few-edges = omega arith;
+            costs-some = λ i h. absurd (omega arith);
+            targets-all = refl;
+            amounts-all = refl;
+            sources-known = λ e h. absurd (omega arith);
+            targets-known = λ e h. absurd (omega arith);
+            amounts-most = λ e. omega arith;
+            rising = λ e h. absurd (omega arith);
+          };
+    }
+
+module _ (bytes : List ℕ) (place : ℕ) (p : Plan) (w : Partly place p) where
+  partly-header : (b : Bus) (next : ℕ) → HeaderTaken bytes (seen place p) b next → Partly next (withBus p b)
+  partly-header b next h =
+      let f = w .fresh (h .fresh) in
+      record {
+        fresh = λ z. absurd (omega (arith, ltb-false 0 (b .cores) z, h .settings .cores-some));
+        started = λ _. (h .settings, omega (arith, f .0, f .1, f .2, h .behind));
+        columns =
+            record {
+              few-tasks = w .columns .few-tasks;
+              few-edges = w .columns .few-edges;
+              costs-some = w .columns .costs-some;
+              targets-all = w .columns .targets-all;
+              amounts-all = w .columns .amounts-all;
+              sources-known = w .columns .sources-known;
+              targets-known = w .columns .targets-known;
+              amounts-most = w .columns .amounts-most;
+              rising = w .columns .rising;
+            };
+      }
+
+  partly-task : (c next : ℕ) → TaskTaken bytes (seen place p) c next → Partly next (withTask p c)
+  partly-task c next h =
+      let long : length (p .costs ++ (c ∷ [])) ≡ tasks p + 1 = snoc-length (p .costs) c in
+      let z : edges p ≡ 0 = h .edgeless in
+      record {
+        fresh = λ e. conflict (h .started) e;
+        started = λ e. (w .started (h .started) .0, omega (arith, w .started (h .started) .1, h .behind));
+        columns =
+            record {
+              few-tasks = omega (arith, h .room);
+              few-edges = w .columns .few-edges;
+              costs-some = snoc-each (λ (x : ℕ). 1 ≤ x) (p .costs) c (w .columns .costs-some) (h .some);
+              targets-all = w .columns .targets-all;
+              amounts-all = w .columns .amounts-all;
+              sources-known = λ e k. absurd (omega arith);
+              targets-known = λ e k. absurd (omega arith);
+              amounts-most = w .columns .amounts-most;
+              rising = λ e k. absurd (omega arith);
+            };
+      }
+
+  -- the last edge's key is below the least that is left
+  least-last : (e : ℕ) → e + 1 ≡ edges p → keyOf (source p e) (target p e) < leastKey p
+  unfolding leastKey
+  least-last e q =
+      let n : edges p - 1 ≡ e = omega arith in
+      either (eqb (edges p) 0)
+      (λ t. absurd (omega (arith, eqb-true (edges p) 0 t)))
+      (λ t. rw (t, n) (omega arith))
+
+  partly-edge : (from to words next : ℕ) → EdgeTaken bytes (seen place p) from to words next → Partly next (withEdge p from to words)
+  partly-edge from to words next h =
+      let long : length (p .sources ++ (from ∷ [])) ≡ edges p + 1 = snoc-length (p .sources) from in
+      let v = w .columns in
+      record {
+        fresh = λ e. conflict (h .started) e;
+        started = λ e. (w .started (h .started) .0, omega (arith, w .started (h .started) .1, h .behind));
+        columns =
+            record {
+              few-tasks = v .few-tasks;
+              few-edges = omega (arith, h .room);
+              costs-some = v .costs-some;
+              targets-all = omega (arith, snoc-length (p .targets) to, v .targets-all);
+              amounts-all = omega (arith, snoc-length (p .amounts) words, v .amounts-all);
+              sources-known = snoc-each (λ (x : ℕ). x < tasks p) (p .sources) from (v .sources-known) (h .source-known);
+              targets-known =
+                  λ e k.
+                  snoc-each (λ (x : ℕ). x < tasks p) (p .targets) to
+                  (λ i m. v .targets-known i (omega (arith, v .targets-all)))
+                  (h .target-known) e (omega (arith, snoc-length (p .targets) to, v .targets-all));
+              amounts-most = snoc-most (p .amounts) words 4095 (v .amounts-most) (h .most);
+              rising =
+                  λ e k.
+                  let olds = snoc-old (p .sources) from e (omega arith) in
+                  let oldt = snoc-old (p .targets) to e (omega (arith, v .targets-all)) in
+                  rw (olds, oldt)
+                  (lt-or-ge (e + 1) (edges p)
+                  (λ m. rw (snoc-old (p .sources) from (e + 1) m, snoc-old (p .targets) to (e + 1) (omega (arith, v .targets-all))) (v .rising e m))
+                  (λ m.
+                  let q : e + 1 ≡ edges p = omega arith in
+                  rw (snoc-new (p .sources) from (e + 1) q, snoc-new (p .targets) to (e + 1) (omega (arith, v .targets-all)))
+                  (omega (arith, least-last e q, h .rises))));
+            };
+      }
+
+-- a plan that was read to its end
+pub record Read (bytes : List ℕ) (p : Plan) : Type 0 where
+  pub valid : Valid p
+  pub sized : length bytes ≡ 6 + 5 * tasks p + 7 * edges p
+
+-- what a reading comes to, if it was good
+abbrev Ends : List ℕ → Reading → Type 0
+Ends bytes r = r .check ≡ Good → Read bytes (r .plan)
+
+on-ends : (bytes : List ℕ) (place : ℕ) (p : Plan) → Partly place p → place ≤ length bytes → (go : ℕ → Plan → Reading)
+    → ((next : ℕ) (q : Plan) → place < next → next ≤ length bytes → Partly next q → Ends bytes (go next q))
+    → (x : Taken) → Took bytes (seen place p) x → Ends bytes (onWith p x go)
+on-ends bytes place p w l go h (Header b next) t = h next (withBus p b) (omega (arith, t .behind)) (t .fits) (partly-header bytes place p w b next t)
+on-ends bytes place p w l go h (Task c next) t = h next (withTask p c) (omega (arith, t .behind)) (t .fits) (partly-task bytes place p w c next t)
+on-ends bytes place p w l go h (Edge from to words next) t = h next (withEdge p from to words) (omega (arith, t .behind)) (t .fits) (partly-edge bytes place p w from to words next t)
+on-ends bytes place p w l go h Complete t =
+    λ _.
+    let s = w .started (t .started) in
+    record { valid = record { settings = s .0; columns = w .columns }; sized = omega (arith, s .1, t .over, l) }
+on-ends bytes place p w l go h (Refused r) t = λ e. good-bad (sym e)
+
+module _ (bytes : List ℕ) where
+  from-ends : (k place : ℕ) (p : Plan) → place ≤ length bytes → length bytes < k + place → Partly place p → Ends bytes (fieldsFrom k bytes place p)
+  unfolding fieldsFrom
+  from-ends zero place p l a w = absurd (omega arith)
+  from-ends (suc k) place p l a w =
+      on-ends bytes place p w l (fieldsFrom k bytes)
+      (λ next q h m v. from-ends k next q m (omega arith) v)
+      (fieldOf bytes (seen place p)) (took bytes (seen place p))
+
+  pub plan-valid : readingOf bytes .check ≡ Good → Read bytes (readingOf bytes .plan)
+  unfolding readingOf readingFrom
+  plan-valid = from-ends (suc (length bytes)) 0 noPlan (omega arith) (omega arith) partly-none

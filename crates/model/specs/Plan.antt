@@ -58,8 +58,7 @@ abbrev pub keyOf : ℕ → ℕ → ℕ
 keyOf from to = 256 * from + to
 
 -- what holds of a plan that bytes are, apart from cycles (proofs/Plan.antt, `plan-valid`)
-pub record Valid (p : Plan) : Type 0 where
-  pub settings : Settings (p .bus)
+pub record Columns (p : Plan) : Type 0 where
   pub few-tasks : tasks p ≤ 64
   pub few-edges : edges p ≤ 256
   pub costs-some : (i : ℕ) → i < tasks p → 1 ≤ cost p i
@@ -69,6 +68,10 @@ pub record Valid (p : Plan) : Type 0 where
   pub targets-known : (e : ℕ) → e < edges p → target p e < tasks p
   pub amounts-most : (e : ℕ) → amount p e ≤ 4095
   pub rising : (e : ℕ) → e + 1 < edges p → keyOf (source p e) (target p e) < keyOf (source p (e + 1)) (target p (e + 1))
+
+pub record Valid (p : Plan) : Type 0 where
+  pub settings : Settings (p .bus)
+  pub columns : Columns p
 
 -- ---- one field
 abbrev broken : Fault → ℕ → Taken
