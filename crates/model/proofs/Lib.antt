@@ -6,3 +6,4 @@ pub mod Field
 pub mod Plan
 pub mod Descent
 pub mod Graph
+pub mod Settles
