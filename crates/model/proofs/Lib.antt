@@ -6,4 +6,5 @@ pub mod Field
 pub mod Plan
 pub mod Descent
 pub mod Graph
+pub mod Contention
 pub mod Settles

@@ -9,23 +9,20 @@ use native.Mathlib.Omega.{arith}
 use Rattle.model.specs.Below.{at, sumBelow, listBelow, countBelow}
 use Rattle.model.specs.Counts.{delay}
 use Rattle.model.specs.Plan.{tasks, cores}
-use Rattle.model.specs.Contention.{Phases, phasesIn, rival, rivals}
+use Rattle.model.specs.Contention.{phasesIn, rivals}
 use Rattle.model.specs.Rules.{delayAt}
 use Rattle.model.specs.ListRule.{Candidate, placed, firstLengths, grown, rounds, settled}
 use Rattle.model.specs.declared.Bus.{Bus}
 use Rattle.model.proofs.Tests.{lt-or-ge}
 use Rattle.model.proofs.Below.{list-at, list-same, sum-le, sum-grows}
 use Rattle.model.proofs.Counts.{delay-rivals}
+use Rattle.model.proofs.Contention.{rivals-most}
 
 max-delay : (b : Bus) (w j k : ℕ) → max (delay b w j) (delay b w k) ≡ delay b w (max j k)
 max-delay b w j k =
     lt-or-ge j k
     (λ h. let e : max j k ≡ k = omega arith in rw e (omega (arith, delay-rivals b w j k (omega arith))))
     (λ h. let e : max j k ≡ j = omega arith in rw e (omega (arith, delay-rivals b w k j h)))
-
-pub rivals-most : (b : Bus) (h : Phases) (x : ℕ) → rivals b h x ≤ b .cores - 1
-unfolding rivals
-rivals-most b h x = omega arith
 
 module _ (c : Candidate) where
   abbrev most : ℕ

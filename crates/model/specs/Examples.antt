@@ -1,10 +1,10 @@
 -- Document 01, "Numbers to try": the lines marked P, as one table. Each case is what the definitions give and what the
 -- document says, and one proof computes them all.
 -- Assumes nothing.
-use Prim.Native.Nat.{ℕ, _<_}
+use Prim.Native.Nat.{ℕ}
 use mathlib.Core.Path.{_≡_, refl, ap}
 use mathlib.Core.List.{List, [], _∷_, _++_, map}
-use lib.ListN.{length, getD, replicate}
+use lib.ListN.{getD, replicate}
 use Rattle.model.specs.Below as below
 use Rattle.model.specs.Counts as counts
 use Rattle.model.specs.Field as field
@@ -105,3 +105,7 @@ cases =
 pub computed : map (λ (c : Case). c .given) cases ≡ map (λ (c : Case). c .wanted) cases
 unfolding cases below.joinBelow below.firstBelow below.bestBelow counts.slots counts.full counts.delay counts.wordTime field.planBody field.tableBody field.stepIn plan.settingsGood plan.inOrder plan.headerIn plan.taskIn plan.edgeIn plan.fieldOf plan.leastKey plan.fieldsFrom plan.readingFrom plan.readingOf graph.placeOf graph.ready graph.nextTask graph.takeNext graph.listed graph.listOrder graph.leftOver graph.planOf table.numbersAt table.fourBytes table.bytesAt table.rising table.valuesAt table.rowAt table.tableCheck table.tableOf contention.moved contention.readWords contention.writeWords contention.ofPhase contention.phaseWords contention.overlap contention.rival contention.rivals rules.delayAt rules.executeAt rules.edgeAt rules.crossing rules.crossAt rules.windowAt rules.broken rule.byPlace rule.added rule.candidate rule.firstLengths rule.isSource rule.earliest rule.clashes rule.leastFree rule.startOf rule.startsOf rule.placed rule.grown rule.rounds rule.settled rule.finished rule.spanOf rule.chosen rule.winner rule.made rule.madeBytes rule.madeSpan bus.held bus.sent bus.freeAt bus.lastServed bus.pending bus.asks bus.coreAsks bus.coreAfter bus.soonest bus.choiceTime bus.coreServed bus.phaseServed bus.grantAt bus.step bus.play bus.run bus.finish bus.waitsBefore bus.waits bus.answers answers.room answers.judged answers.verdictOf answers.making answers.madeOf answers.madeOutput answers.declared answers.servedCheck answers.wordsCheck answers.playing answers.playedOf answers.playedOutput
 computed = refl
+
+-- the law: at each index of the table the definitions give what the document says
+pub each : (i : ℕ) → getD (map (λ (c : Case). c .given) cases) i [] ≡ getD (map (λ (c : Case). c .wanted) cases) i []
+each i = ap (λ (l : List (List ℕ)). getD l i []) computed
