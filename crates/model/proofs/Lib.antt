@@ -8,3 +8,4 @@ pub mod Descent
 pub mod Graph
 pub mod Contention
 pub mod Settles
+pub mod Rules
