@@ -8,7 +8,7 @@ use lib.ListN.{length}
 use lib.Dec.{ltb, leb, eqb}
 use borrow.Author.Tests.{ltb-true, ltb-false, leb-true, leb-false, eqb-true, eqb-false, not-false}
 use Rattle.model.specs.Below.{at}
-use Rattle.model.specs.Field.{two, stepIn, planBody, tableBody}
+use Rattle.model.specs.Field.{two, bodyOf, stepIn, planBody, tableBody}
 use Rattle.model.specs.declared.Refusal.{Refusal}
 use Rattle.model.specs.declared.Side.{Side}
 use Rattle.model.specs.declared.Step.{Step}
@@ -26,49 +26,49 @@ pub end-broken : {C : Type 0} {r : Refusal} → End ≡ Broken r → C
 end-broken e = let z : _≡_ {A = ℕ} 0 1 = cc in absurd (omega arith)
 
 -- a whole field stands at a place
-pub record Whole (bodyOf : ℕ → ℕ) (s : List ℕ) (place tag offset body : ℕ) : Type 0 where
+pub record Whole (side : Side) (s : List ℕ) (place tag offset body : ℕ) : Type 0 where
   pub here : offset ≡ place
   pub tagged : tag ≡ at s place
-  pub known : bodyOf tag ≡ 0 → ⊥
-  pub sized : body ≡ bodyOf tag
+  pub known : bodyOf side tag ≡ 0 → ⊥
+  pub sized : body ≡ bodyOf side tag
   pub said : two s (place + 1) ≡ body
   pub fits : place + 3 + body ≤ length s
 
-module _ (side : Side) (bodyOf : ℕ → ℕ) (s : List ℕ) (place : ℕ) where
-  pub whole : {tag offset body : ℕ} → stepIn side bodyOf s place ≡ Field tag offset body → Whole bodyOf s place tag offset body
+module _ (side : Side) (s : List ℕ) (place : ℕ) where
+  pub whole : {tag offset body : ℕ} → stepIn side s place ≡ Field tag offset body → Whole side s place tag offset body
   unfolding stepIn
   whole {tag} {offset} {body} e =
       taking (leb (length s) place) e (λ _ z. field-end (sym z)) (λ h1 e1.
       taking (ltb (length s - place) 3) e1 (λ _ z. field-broken (sym z)) (λ h2 e2.
-      taking (eqb (bodyOf (at s place)) 0) e2 (λ _ z. field-broken (sym z)) (λ h3 e3.
-      taking (not (eqb (two s (place + 1)) (bodyOf (at s place)))) e3 (λ _ z. field-broken (sym z)) (λ h4 e4.
-      taking (ltb (length s - place) (3 + bodyOf (at s place))) e4 (λ _ z. field-broken (sym z)) (λ h5 e5.
+      taking (eqb (bodyOf side (at s place)) 0) e2 (λ _ z. field-broken (sym z)) (λ h3 e3.
+      taking (not (eqb (two s (place + 1)) (bodyOf side (at s place)))) e3 (λ _ z. field-broken (sym z)) (λ h4 e4.
+      taking (ltb (length s - place) (3 + bodyOf side (at s place))) e4 (λ _ z. field-broken (sym z)) (λ h5 e5.
       let t : at s place ≡ tag = cc in
-      let b : bodyOf (at s place) ≡ body = cc in
+      let b : bodyOf side (at s place) ≡ body = cc in
       record {
         here = cc;
         tagged = cc;
-        known = λ z. eqb-false (bodyOf (at s place)) 0 h3 (ap bodyOf t ∙ z);
-        sized = sym b ∙ ap bodyOf t;
-        said = eqb-true (two s (place + 1)) (bodyOf (at s place)) (not-false _ h4) ∙ b;
+        known = λ z. eqb-false (bodyOf side (at s place)) 0 h3 (ap (bodyOf side) t ∙ z);
+        sized = sym b ∙ ap (bodyOf side) t;
+        said = eqb-true (two s (place + 1)) (bodyOf side (at s place)) (not-false _ h4) ∙ b;
         fits =
             omega (
               arith,
               b,
               leb-false (length s) place h1,
               ltb-false (length s - place) 3 h2,
-              ltb-false (length s - place) (3 + bodyOf (at s place)) h5,
+              ltb-false (length s - place) (3 + bodyOf side (at s place)) h5,
             );
       })))))
 
-  pub none-left : stepIn side bodyOf s place ≡ End → length s ≤ place
+  pub none-left : stepIn side s place ≡ End → length s ≤ place
   unfolding stepIn
   none-left e =
       taking (leb (length s) place) e (λ h _. leb-true (length s) place h) (λ h1 e1.
       taking (ltb (length s - place) 3) e1 (λ _ z. end-broken (sym z)) (λ h2 e2.
-      taking (eqb (bodyOf (at s place)) 0) e2 (λ _ z. end-broken (sym z)) (λ h3 e3.
-      taking (not (eqb (two s (place + 1)) (bodyOf (at s place)))) e3 (λ _ z. end-broken (sym z)) (λ h4 e4.
-      taking (ltb (length s - place) (3 + bodyOf (at s place))) e4 (λ _ z. end-broken (sym z)) (λ h5 e5. field-end e5)))))
+      taking (eqb (bodyOf side (at s place)) 0) e2 (λ _ z. end-broken (sym z)) (λ h3 e3.
+      taking (not (eqb (two s (place + 1)) (bodyOf side (at s place)))) e3 (λ _ z. end-broken (sym z)) (λ h4 e4.
+      taking (ltb (length s - place) (3 + bodyOf side (at s place))) e4 (λ _ z. end-broken (sym z)) (λ h5 e5. field-end e5)))))
 
 -- the body lengths
 pub header-body : (tag : ℕ) → tag ≡ 1 → planBody tag ≡ 3

@@ -149,10 +149,10 @@ module _ (bytes : List ℕ) (s : Seen) where
 
   took-step : (x : Step) → planStep bytes (s .at) ≡ x → (s .at + 3 ≤ length bytes → inOrder s (at bytes (s .at)) ≡ true) → Took bytes s (fieldBy bytes s x)
   took-step (Field tag place body) e o =
-      let w = whole OfPlan planBody bytes (s .at) e in
+      let w = whole OfPlan bytes (s .at) e in
       took-tag tag (rw (w .tagged) (o (omega (arith, w .fits)))) (w .known) (omega (arith, w .fits, w .sized))
   took-step End e o =
-      cond-is (Took bytes s) (s .started) (λ f. record { started = f; over = none-left OfPlan planBody bytes (s .at) e }) (λ _. tt)
+      cond-is (Took bytes s) (s .started) (λ f. record { started = f; over = none-left OfPlan bytes (s .at) e }) (λ _. tt)
   took-step (Broken r) e o = tt
 
   pub took : Took bytes s (fieldOf bytes s)

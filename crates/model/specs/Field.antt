@@ -10,7 +10,7 @@ use Rattle.model.specs.Below.{at}
 use Rattle.model.specs.Refusals.{refusal}
 use Rattle.model.specs.declared.Fault.the-variants.{FieldCut, TagUnknown, LengthWrong}
 use Rattle.model.specs.declared.Side.{Side}
-use Rattle.model.specs.declared.Side.the-variants.{OfPlan, OfTable}
+use Rattle.model.specs.declared.Side.the-variants.{OfNeither, OfPlan, OfTable}
 use Rattle.model.specs.declared.Step.{Step}
 use Rattle.model.specs.declared.Step.the-variants.{Field, End, Broken}
 
@@ -28,11 +28,16 @@ planBody tag = cond (eqb tag 1) 3 (cond (eqb tag 2) 2 (cond (eqb tag 3) 4 0))
 unfoldable pub tableBody : ℕ → ℕ
 tableBody tag = cond (eqb tag 4) 17 0
 
+abbrev pub bodyOf : Side → ℕ → ℕ
+bodyOf OfPlan tag = planBody tag
+bodyOf OfTable tag = tableBody tag
+bodyOf OfNeither tag = 0
+
 -- "At or past the end it says that none is left. A step makes only the checks header cut, tag known .., length and body
--- cut, in that order": 1, 2, 3, 1, each at the field's offset, in bytes of a side whose tags have these body lengths
-unfoldable pub stepIn : Side → (ℕ → ℕ) → List ℕ → ℕ → Step
-stepIn side bodyOf s place =
-    let body = bodyOf (at s place) in
+-- cut, in that order": 1, 2, 3, 1, each at the field's offset, in the bytes of a side
+unfoldable pub stepIn : Side → List ℕ → ℕ → Step
+stepIn side s place =
+    let body = bodyOf side (at s place) in
     cond (leb (length s) place) End
     (cond (ltb (length s - place) 3) (Broken (refusal FieldCut side place))
     (cond (eqb body 0) (Broken (refusal TagUnknown side place))
@@ -41,10 +46,10 @@ stepIn side bodyOf s place =
     (Field (at s place) place body)))))
 
 abbrev pub planStep : List ℕ → ℕ → Step
-planStep s place = stepIn OfPlan planBody s place
+planStep s place = stepIn OfPlan s place
 
 abbrev pub tableStep : List ℕ → ℕ → Step
-tableStep s place = stepIn OfTable tableBody s place
+tableStep s place = stepIn OfTable s place
 
 -- the position after a step that was made at a position: behind the field; "on a refusal the position stays"
 abbrev pub placeAfter : Step → ℕ → ℕ
