@@ -6,14 +6,16 @@ use Prim.Native.Nat.{ℕ, _+_, _*_, _-_, _≤_, _<_}
 use native.Mathlib.Omega.{arith}
 use lib.ListN.{length}
 use lib.Dec.{ltb, leb, eqb}
-use borrow.Author.Tests.{ltb-true, ltb-false, leb-true, leb-false, eqb-true, eqb-false, not-false}
+use borrow.Author.Tests.{ltb-true, ltb-false, leb-true, leb-false, eqb-true, eqb-false, not-false, lt-ltb, le-ltb, le-leb, lt-leb, eq-eqb, ne-eqb}
 use Rattle.model.specs.Below.{at}
 use Rattle.model.specs.Field.{two, bodyOf, stepIn, planBody, tableBody}
+use Rattle.model.specs.Refusals.{refusal}
+use Rattle.model.specs.declared.Fault.the-variants.{FieldCut, TagUnknown, LengthWrong}
 use Rattle.model.specs.declared.Refusal.{Refusal}
 use Rattle.model.specs.declared.Side.{Side}
 use Rattle.model.specs.declared.Step.{Step}
 use Rattle.model.specs.declared.Step.the-variants.{Field, End, Broken}
-use Rattle.model.proofs.Tests.{either, taking}
+use Rattle.model.proofs.Tests.{either, taking, cond-le}
 
 -- three kinds of steps are apart
 pub field-end : {C : Type 0} {tag place body : ℕ} → Field tag place body ≡ End → C
@@ -89,3 +91,45 @@ edge-body tag n1 n2 k =
 pub row-body : (tag : ℕ) → (tableBody tag ≡ 0 → ⊥) → (tag ≡ 4) × (tableBody tag ≡ 17)
 unfolding tableBody
 row-body tag k = either (eqb tag 4) (λ t. (eqb-true tag 4 t, rw t)) (λ t. absurd (k (rw t)))
+
+-- ---- one law for each way out of a step, over the tag, the body's length and the length that code has read
+module _ (side : Side) (s : List ℕ) (place tag body said : ℕ) where
+  pub step-end : length s ≤ place → End ≡ stepIn side s place
+  unfolding stepIn
+  step-end h = rw (le-leb (length s) place h)
+
+  module _ (h : place < length s) where
+    pub step-cut : length s - place < 3 → Broken (refusal FieldCut side place) ≡ stepIn side s place
+    unfolding stepIn
+    step-cut k = rw (lt-leb (length s) place h, lt-ltb (length s - place) 3 k)
+
+    module _ (k : 3 ≤ length s - place) (t : tag ≡ at s place) (b : body ≡ bodyOf side tag) where
+      pub step-unknown : body ≡ 0 → Broken (refusal TagUnknown side place) ≡ stepIn side s place
+      unfolding stepIn
+      step-unknown z =
+          rw (lt-leb (length s) place h, le-ltb (length s - place) 3 k, ← t, ← b, eq-eqb body 0 z)
+
+      module _ (n : body ≡ 0 → ⊥) (l : said ≡ two s (place + 1)) where
+        pub step-length : (said ≡ body → ⊥) → Broken (refusal LengthWrong side place) ≡ stepIn side s place
+        unfolding stepIn
+        step-length d =
+            rw (lt-leb (length s) place h, le-ltb (length s - place) 3 k, ← t, ← b, ne-eqb body 0 n, ← l, ne-eqb said body d)
+
+        pub step-body : said ≡ body → length s - place < 3 + body → Broken (refusal FieldCut side place) ≡ stepIn side s place
+        unfolding stepIn
+        step-body e m =
+            rw (lt-leb (length s) place h, le-ltb (length s - place) 3 k, ← t, ← b, ne-eqb body 0 n, ← l, eq-eqb said body e, lt-ltb (length s - place) (3 + body) m)
+
+        pub step-field : said ≡ body → 3 + body ≤ length s - place → Field tag place body ≡ stepIn side s place
+        unfolding stepIn
+        step-field e m =
+            rw (lt-leb (length s) place h, le-ltb (length s - place) 3 k, ← t, ← b, ne-eqb body 0 n, ← l, eq-eqb said body e, le-ltb (length s - place) (3 + body) m)
+
+pub plan-body-most : (tag : ℕ) → planBody tag ≤ 17
+unfolding planBody
+plan-body-most tag =
+    cond-le (eqb tag 1) (omega arith) (cond-le (eqb tag 2) (omega arith) (cond-le (eqb tag 3) (omega arith) (omega arith)))
+
+pub table-body-most : (tag : ℕ) → tableBody tag ≤ 17
+unfolding tableBody
+table-body-most tag = cond-le (eqb tag 4) (omega arith) (omega arith)
