@@ -2,9 +2,11 @@
 ghost use mathlib.Core.Path.{_≡_};
 ghost use Prim.Native.Nat.{ℕ, _+_, _<_, _≤_};
 ghost use lib.ListN.{length};
-ghost use Rattle.model.specs.Below.{at as atOf};
+ghost use Rattle.model.specs.Below.{at};
 ghost use Rattle.model.specs.Field.{two, planBody, tableBody, bodyOf, stepIn, planStep, placeAfter};
-ghost use Rattle.model.specs.Plan.{settingsGood, inOrder, headerIn, taskIn, edgeIn, fieldBy, fieldOf};
+ghost use mathlib.Core.Bool.{not, _||_};
+ghost use lib.Dec.{ltb, leb};
+ghost use Rattle.model.specs.Plan.{keyOf, settingsGood, inOrder, headerIn, taskIn, edgeIn, fieldBy, fieldOf};
 use model::Bus;
 use model::Fault;
 use model::Refusal;
@@ -18,7 +20,7 @@ use model::Words;
 // The byte at i.
 pub fn byte_at(s: &[u8], i: usize) -> u8
     requires { ⌜ i < length (now s) ⌝ }
-    ensures { λ r. ⌜ r ≡ atOf (now (s .entry)) i ⌝ }
+    ensures { λ r. ⌜ r ≡ at (now (s .entry)) i ⌝ }
 {
     s[i]
 }
@@ -100,4 +102,146 @@ pub fn step_in(side: Side, s: &[u8], place: usize) -> Step
         at: place,
         body,
     }
+}
+
+// The settings that tag 1 takes.
+fn settings_good(cores: u8, t: u8, d: u8) -> bool
+    ensures { λ r. ⌜ r ≡ settingsGood cores t d ⌝ }
+{
+    if cores < 1 {
+        return false;
+    }
+    if 8 < cores {
+        return false;
+    }
+    if t < 1 {
+        return false;
+    }
+    if 64 < t {
+        return false;
+    }
+    if d < 1 {
+        return false;
+    }
+    if 64 < d {
+        return false;
+    }
+    t % d == 0
+}
+
+// A tag may come next: one tag 1 first, tags 2 before tags 3.
+fn in_order(seen: Seen, tag: u8) -> bool
+    ensures { λ r. ⌜ r ≡ inOrder seen tag ⌝ }
+{
+    if seen.started {
+        if tag == 2 {
+            return seen.edges == 0;
+        }
+        return tag == 3;
+    }
+    tag == 1
+}
+
+fn refused(fault: Fault, place: usize) -> Taken
+    ensures { λ r. ⌜ r ≡ Taken.Refused (record { fault = fault; side = Side.OfPlan; place = place }) ⌝ }
+{
+    Taken::Refused(Refusal {
+        fault,
+        side: Side::OfPlan,
+        place,
+    })
+}
+
+fn wide(x: u8) -> u32
+    ensures { λ r. ⌜ r ≡ x ⌝ }
+{
+    x as u32
+}
+
+// The header in a whole field at a place: 4.
+fn header_in(plan: &[u8], place: usize) -> Taken
+    requires { ⌜ place + 6 ≤ length (now plan) ⌝ }
+    ensures { λ r. ⌜ r ≡ headerIn (now (plan .entry)) place ⌝ }
+{
+    let cores = byte_at(plan, place + 3);
+    let t = byte_at(plan, place + 4);
+    let d = byte_at(plan, place + 5);
+    if settings_good(cores, t, d) {
+        return Taken::Header {
+            bus: Bus {
+                cores: wide(cores),
+                t: Time(wide(t)),
+                d: Words(wide(d)),
+            },
+            next: place + 6,
+        };
+    }
+    refused(Fault::ValueOutOfRange, place)
+}
+
+// The task in a whole field: 6, 4.
+fn task_in(plan: &[u8], seen: Seen) -> Taken
+    requires { ⌜ seen .at + 5 ≤ length (now plan) ⌝ }
+    ensures { λ r. ⌜ r ≡ taskIn (now (plan .entry)) seen ⌝ }
+{
+    let place = seen.at;
+    if 64 <= seen.tasks {
+        return refused(Fault::TooMany, place);
+    }
+    let cost = two_at(plan, place + 3);
+    if cost == 0 {
+        return refused(Fault::ValueOutOfRange, place);
+    }
+    Taken::Task {
+        cost: cost as u16,
+        next: place + 5,
+    }
+}
+
+// The values of an edge are in range.
+fn edge_good(tasks: usize, source: u8, target: u8, words: usize) -> bool
+    ensures { λ r. ⌜ r ≡ not ((leb tasks source || leb tasks target) || ltb 4095 words) ⌝ }
+{
+    if tasks <= source as usize {
+        return false;
+    }
+    if tasks <= target as usize {
+        return false;
+    }
+    if 4095 < words {
+        return false;
+    }
+    true
+}
+
+fn key_of(source: u8, target: u8) -> usize
+    ensures { λ r. ⌜ (r ≡ keyOf source target) × (r < 65536) ⌝ }
+{
+    256 * source as usize + target as usize
+}
+
+// The edge in a whole field: 6, 4, 5.
+fn edge_in(plan: &[u8], seen: Seen) -> Taken
+    requires { ⌜ seen .at + 7 ≤ length (now plan) ⌝ }
+    ensures { λ r. ⌜ r ≡ edgeIn (now (plan .entry)) seen ⌝ }
+{
+    let place = seen.at;
+    if 256 <= seen.edges {
+        return refused(Fault::TooMany, place);
+    }
+    let source = byte_at(plan, place + 3);
+    let target = byte_at(plan, place + 4);
+    let words = two_at(plan, place + 5);
+    if edge_good(seen.tasks, source, target, words) {
+        if key_of(source, target) < seen.least {
+            return refused(Fault::EdgesNotRising, place);
+        }
+        return Taken::Edge {
+            source,
+            target,
+            words: words as u16,
+            next: place + 7,
+        };
+    }
+    refused(Fault::ValueOutOfRange, place)
 }
