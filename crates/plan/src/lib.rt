@@ -245,3 +245,59 @@ fn edge_in(plan: &[u8], seen: Seen) -> Taken
     }
     refused(Fault::ValueOutOfRange, place)
 }
+
+// What stands at a place of a plan.
+pub fn field_at(plan: &[u8], at: usize) -> Step
+    ensures { λ r. ⌜ r ≡ planStep (now (plan .entry)) at ⌝ }
+{
+    step_in(Side::OfPlan, plan, at)
+}
+
+// The place after a step: behind the field; on a refusal, and at the end, it stays.
+pub fn place_after(plan: &[u8], at: usize) -> usize
+    ensures { λ r. ⌜ r ≡ placeAfter (planStep (now (plan .entry)) at) at ⌝ }
+{
+    match field_at(plan, at) {
+        Step::Field {
+            tag: _,
+            at: offset,
+            body,
+        } => offset + 3 + body,
+        Step::End => at,
+        Step::Broken(_) => at,
+    }
+}
+
+// The reader: it holds the lent plan bytes and its position. Each function over it is thin, and proved by a walk.
+pub struct Reader<'a> {
+    pub plan: &'a [u8],
+    pub at: usize,
+}
+
+pub fn new<'a>(plan: &'a [u8]) -> Reader<'a>
+    ensures { λ r. ⌜ (r .plan ≡ plan .entry) × (r .at ≡ 0) ⌝ }
+{
+    Reader { plan, at: 0 }
+}
+
+// The field at the reader's position.
+pub fn next<'a>(r: Reader<'a>) -> Step
+    ensures { λ s. ⌜ s ≡ planStep (now (r .entry .plan)) (r .entry .at) ⌝ }
+{
+    field_at(r.plan, r.at)
+}
+
+// The reader after that field; on a refusal, and at the end, its position stays.
+pub fn advanced<'a>(r: Reader<'a>) -> Reader<'a>
+    ensures { λ q. ⌜ (q .plan ≡ r .entry .plan) × (q .at ≡ placeAfter (planStep (now (r .entry .plan)) (r .entry .at)) (r .entry .at)) ⌝ }
+{
+    let at = place_after(r.plan, r.at);
+    Reader { plan: r.plan, at }
+}
+
+// What a reader at a position gives: its parameters are plain, so its callers need no walk.
+pub fn step_from(plan: &[u8], at: usize) -> Step
+    ensures { λ r. ⌜ r ≡ planStep (now (plan .entry)) at ⌝ }
+{
+    next(Reader { plan, at })
+}
