@@ -112,9 +112,12 @@ edgeIn p s =
     (cond (ltb (keyOf from to) (s .least)) (broken EdgesNotRising (s .at))
     (Edge from to words (s .at + 7))))
 
+abbrev pub tagged : List ℕ → Seen → ℕ → Taken
+tagged p s tag = cond (eqb tag 1) (headerIn p (s .at)) (cond (eqb tag 2) (taskIn p s) (edgeIn p s))
+
 -- by what the reader's step found: an empty plan is 1
 abbrev pub fieldBy : List ℕ → Seen → Step → Taken
-fieldBy p s (Field tag place body) = cond (eqb tag 1) (headerIn p (s .at)) (cond (eqb tag 2) (taskIn p s) (edgeIn p s))
+fieldBy p s (Field tag place body) = tagged p s tag
 fieldBy p s End = cond (s .started) Complete (broken FieldCut (s .at))
 fieldBy p s (Broken r) = Refused r
 

@@ -2,16 +2,19 @@
 use mathlib.Core.Path.{_≡_, sym, _∙_}
 use mathlib.Core.Bool.{Bool, true, false, not, _||_}
 use mathlib.Core.List.{List}
-use Prim.Native.Nat.{ℕ, _+_, _≤_, _<_}
+use Prim.Native.Nat.{ℕ, _+_, _-_, _≤_, _<_}
+use native.Mathlib.Omega.{arith}
+use lib.ListN.{length}
 use lib.Dec.{ltb, leb}
 use borrow.Author.Tests.{lt-ltb, le-ltb, le-leb, lt-leb, eq-eqb, ne-eqb, not-true, not-false}
 use Rattle.model.specs.Below.{at}
 use Rattle.model.specs.Refusals.{refusal}
-use Rattle.model.specs.Field.{two}
-use Rattle.model.specs.Plan.{keyOf, settingsGood, headerIn, taskIn, edgeIn}
-use Rattle.model.specs.declared.Fault.the-variants.{ValueOutOfRange, EdgesNotRising, TooMany}
+use Rattle.model.specs.Field.{two, planStep}
+use Rattle.model.specs.Plan.{keyOf, settingsGood, inOrder, headerIn, taskIn, edgeIn, tagged, fieldBy, fieldOf}
+use Rattle.model.specs.declared.Fault.the-variants.{TagUnknown, ValueOutOfRange, EdgesNotRising, TooMany}
 use Rattle.model.specs.declared.Side.the-variants.{OfPlan}
 use Rattle.model.specs.declared.Seen.{Seen}
+use Rattle.model.specs.declared.Taken.{Taken}
 use Rattle.model.specs.declared.Taken.the-variants.{Header, Task, Edge, Refused}
 
 module _ (bytes : List ℕ) (place c t d : ℕ) (g : Bool) (ec : c ≡ at bytes (place + 3)) (et : t ≡ at bytes (place + 4)) (ed : d ≡ at bytes (place + 5)) (eg : g ≡ settingsGood c t d) where
@@ -62,3 +65,28 @@ module _ (bytes : List ℕ) (s : Seen) where
     pub edge-good : g ≡ true → s .least ≤ keyOf from to → Edge from to words (s .at + 7) ≡ edgeIn bytes s
     unfolding edgeIn
     edge-good z k = rw (lt-leb 256 (s .edges) h, ← ef, ← et, ← ew, is-good z, le-ltb (keyOf from to) (s .least) k)
+
+module _ (bytes : List ℕ) (s : Seen) where
+  -- the next field: with its header cut; in order; out of order
+  pub field-cut : (x : Taken) → length bytes - s .at < 3 → x ≡ fieldBy bytes s (planStep bytes (s .at)) → x ≡ fieldOf bytes s
+  unfolding fieldOf
+  field-cut x h e = rw (lt-leb (s .at + 3) (length bytes) (omega arith)) e
+
+  module _ (o : Bool) (tag : ℕ) (h : 3 ≤ length bytes - s .at) (t : tag ≡ at bytes (s .at)) (eo : o ≡ inOrder s tag) where
+    pub field-ordered : (x : Taken) → o ≡ true → x ≡ fieldBy bytes s (planStep bytes (s .at)) → x ≡ fieldOf bytes s
+    unfolding fieldOf
+    field-ordered x q e = rw (le-leb (s .at + 3) (length bytes) (omega arith), ← t, ← eo, q) e
+
+    pub field-disordered : o ≡ false → Refused (refusal TagUnknown OfPlan (s .at)) ≡ fieldOf bytes s
+    unfolding fieldOf
+    field-disordered q = rw (le-leb (s .at + 3) (length bytes) (omega arith), ← t, ← eo, q)
+
+  -- a whole field by its tag
+  pub tagged-header : (x : Taken) (tag : ℕ) → tag ≡ 1 → x ≡ headerIn bytes (s .at) → x ≡ tagged bytes s tag
+  tagged-header x tag t e = rw (eq-eqb tag 1 t) e
+
+  pub tagged-task : (x : Taken) (tag : ℕ) → (tag ≡ 1 → ⊥) → tag ≡ 2 → x ≡ taskIn bytes s → x ≡ tagged bytes s tag
+  tagged-task x tag n t e = rw (ne-eqb tag 1 n, eq-eqb tag 2 t) e
+
+  pub tagged-edge : (x : Taken) (tag : ℕ) → (tag ≡ 1 → ⊥) → (tag ≡ 2 → ⊥) → x ≡ edgeIn bytes s → x ≡ tagged bytes s tag
+  tagged-edge x tag n m e = rw (ne-eqb tag 1 n, ne-eqb tag 2 m) e

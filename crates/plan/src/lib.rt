@@ -6,7 +6,7 @@ ghost use Rattle.model.specs.Below.{at};
 ghost use Rattle.model.specs.Field.{two, planBody, tableBody, bodyOf, stepIn, planStep, placeAfter};
 ghost use mathlib.Core.Bool.{not, _||_};
 ghost use lib.Dec.{ltb, leb};
-ghost use Rattle.model.specs.Plan.{keyOf, settingsGood, inOrder, headerIn, taskIn, edgeIn, fieldBy, fieldOf};
+ghost use Rattle.model.specs.Plan.{keyOf, settingsGood, inOrder, headerIn, taskIn, edgeIn, tagged, fieldBy, fieldOf};
 use model::Bus;
 use model::Fault;
 use model::Refusal;
@@ -300,4 +300,54 @@ pub fn step_from(plan: &[u8], at: usize) -> Step
     ensures { λ r. ⌜ r ≡ planStep (now (plan .entry)) at ⌝ }
 {
     next(Reader { plan, at })
+}
+
+// A whole field by its tag.
+fn by_tag(plan: &[u8], seen: Seen, tag: u8) -> Taken
+    requires { ⌜ (planBody tag ≡ 0 → ⊥) × (seen .at + 3 + planBody tag ≤ length (now plan)) ⌝ }
+    ensures { λ r. ⌜ r ≡ tagged (now (plan .entry)) seen tag ⌝ }
+{
+    if tag == 1 {
+        return header_in(plan, seen.at);
+    }
+    if tag == 2 {
+        return task_in(plan, seen);
+    }
+    edge_in(plan, seen)
+}
+
+// The next field, where its tag is in order.
+fn field_by(plan: &[u8], seen: Seen) -> Taken
+    ensures { λ r. ⌜ r ≡ fieldBy (now (plan .entry)) seen (planStep (now (plan .entry)) (seen .at)) ⌝ }
+{
+    let at = seen.at;
+    match step_from(plan, at) {
+        Step::Field {
+            tag,
+            at: _,
+            body: _,
+        } => by_tag(plan, seen, tag),
+        Step::End => {
+            if seen.started {
+                return Taken::Complete;
+            }
+            refused(Fault::FieldCut, at)
+        }
+        Step::Broken(r) => Taken::Refused(r),
+    }
+}
+
+// The next field: a tag out of order is refused after a cut header and before the length.
+fn field_of(plan: &[u8], seen: Seen) -> Taken
+    requires { ⌜ seen .at ≤ length (now plan) ⌝ }
+    ensures { λ r. ⌜ r ≡ fieldOf (now (plan .entry)) seen ⌝ }
+{
+    let at = seen.at;
+    if plan.len() - at < 3 {
+        return field_by(plan, seen);
+    }
+    if in_order(seen, byte_at(plan, at)) {
+        return field_by(plan, seen);
+    }
+    refused(Fault::TagUnknown, at)
 }
