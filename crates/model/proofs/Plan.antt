@@ -245,7 +245,7 @@ partly-none =
     }
 
 module _ (bytes : List ℕ) (place : ℕ) (p : Plan) (w : Partly place p) where
-  partly-header : (b : Bus) (next : ℕ) → HeaderTaken bytes (seen place p) b next → Partly next (withBus p b)
+  pub partly-header : (b : Bus) (next : ℕ) → HeaderTaken bytes (seen place p) b next → Partly next (withBus p b)
   partly-header b next h =
       let f = w .fresh (h .fresh) in
       record {
@@ -265,7 +265,7 @@ module _ (bytes : List ℕ) (place : ℕ) (p : Plan) (w : Partly place p) where
             };
       }
 
-  partly-task : (c next : ℕ) → TaskTaken bytes (seen place p) c next → Partly next (withTask p c)
+  pub partly-task : (c next : ℕ) → TaskTaken bytes (seen place p) c next → Partly next (withTask p c)
   partly-task c next h =
       let long : length (p .costs ++ (c ∷ [])) ≡ tasks p + 1 = snoc-length (p .costs) c in
       let z : edges p ≡ 0 = h .edgeless in
@@ -295,7 +295,7 @@ module _ (bytes : List ℕ) (place : ℕ) (p : Plan) (w : Partly place p) where
       (λ t. absurd (omega (arith, eqb-true (edges p) 0 t)))
       (λ t. rw (t, n) (omega arith))
 
-  partly-edge : (from to words next : ℕ) → EdgeTaken bytes (seen place p) from to words next → Partly next (withEdge p from to words)
+  pub partly-edge : (from to words next : ℕ) → EdgeTaken bytes (seen place p) from to words next → Partly next (withEdge p from to words)
   partly-edge from to words next h =
       let long : length (p .sources ++ (from ∷ [])) ≡ edges p + 1 = snoc-length (p .sources) from in
       let v = w .columns in

@@ -6,7 +6,8 @@ ghost use Rattle.model.specs.Below.{at};
 ghost use Rattle.model.specs.Field.{two, planBody, tableBody, bodyOf, stepIn, planStep, placeAfter};
 ghost use mathlib.Core.Bool.{not, _||_};
 ghost use lib.Dec.{ltb, leb};
-ghost use Rattle.model.specs.Plan.{keyOf, settingsGood, inOrder, headerIn, taskIn, edgeIn, tagged, fieldBy, fieldOf};
+ghost use Rattle.model.specs.Plan.{keyOf, settingsGood, inOrder, headerIn, taskIn, edgeIn, tagged, fieldBy, fieldOf, readingOf};
+ghost use Rattle.plan.specs.Planned.{filled, parsedBy, afterHeader, afterTask, afterEdge};
 use model::Bus;
 use model::Fault;
 use model::Refusal;
@@ -350,4 +351,115 @@ fn field_of(plan: &[u8], seen: Seen) -> Taken
         return field_by(plan, seen);
     }
     refused(Fault::TagUnknown, at)
+}
+
+// What is known of a plan beside its columns: the bus, the number of tasks and of edges.
+pub struct Shape {
+    pub bus: Bus,
+    pub tasks: usize,
+    pub edges: usize,
+}
+
+pub enum Planned {
+    Whole(Shape),
+    Refused(Refusal),
+}
+
+// Behind the header, behind a task, behind an edge.
+fn after_header(seen: Seen, next: usize) -> Seen
+    ensures { λ r. ⌜ r ≡ afterHeader seen next ⌝ }
+{
+    Seen {
+        at: next,
+        started: true,
+        tasks: seen.tasks,
+        edges: seen.edges,
+        least: seen.least,
+    }
+}
+
+fn after_task(seen: Seen, next: usize) -> Seen
+    requires { ⌜ seen .tasks < 64 ⌝ }
+    ensures { λ r. ⌜ r ≡ afterTask seen next ⌝ }
+{
+    Seen {
+        at: next,
+        started: seen.started,
+        tasks: seen.tasks + 1,
+        edges: seen.edges,
+        least: seen.least,
+    }
+}
+
+fn after_edge(seen: Seen, source: u8, target: u8, next: usize) -> Seen
+    requires { ⌜ seen .edges < 256 ⌝ }
+    ensures { λ r. ⌜ r ≡ afterEdge seen source target next ⌝ }
+{
+    Seen {
+        at: next,
+        started: seen.started,
+        tasks: seen.tasks,
+        edges: seen.edges + 1,
+        least: key_of(source, target) + 1,
+    }
+}
+
+// All fields of a plan, into the columns: execute times by task, and sources, targets and words by edge.
+fn parse(
+    plan: &[u8],
+    costs: &mut [u16; 64],
+    sources: &mut [u8; 256],
+    targets: &mut [u8; 256],
+    amounts: &mut [u16; 256],
+) -> Planned
+    ensures answer { λ r. ⌜ r ≡ parsedBy (readingOf (now (plan .entry)) .plan) (readingOf (now (plan .entry)) .check) ⌝ }
+    ensures columns { λ r. ⌜ (now (costs .exit) ≡ filled (readingOf (now (plan .entry)) .plan .costs) (now (costs .entry))) × (now (sources .exit) ≡ filled (readingOf (now (plan .entry)) .plan .sources) (now (sources .entry))) × (now (targets .exit) ≡ filled (readingOf (now (plan .entry)) .plan .targets) (now (targets .entry))) × (now (amounts .exit) ≡ filled (readingOf (now (plan .entry)) .plan .amounts) (now (amounts .entry))) ⌝ }
+{
+    let mut bus = Bus {
+        cores: 0,
+        t: Time(0),
+        d: Words(0),
+    };
+    let mut seen = Seen {
+        at: 0,
+        started: false,
+        tasks: 0,
+        edges: 0,
+        least: 0,
+    };
+    loop {
+        match field_of(plan, seen) {
+            Taken::Header { bus: given, next } => {
+                bus = given;
+                seen = after_header(seen, next);
+            }
+            Taken::Task { cost, next } => {
+                let i = seen.tasks;
+                costs[i] = cost;
+                seen = after_task(seen, next);
+            }
+            Taken::Edge {
+                source,
+                target,
+                words,
+                next,
+            } => {
+                let e = seen.edges;
+                sources[e] = source;
+                targets[e] = target;
+                amounts[e] = words;
+                seen = after_edge(seen, source, target, next);
+            }
+            Taken::Complete => {
+                return Planned::Whole(Shape {
+                    bus,
+                    tasks: seen.tasks,
+                    edges: seen.edges,
+                });
+            }
+            Taken::Refused(r) => {
+                return Planned::Refused(r);
+            }
+        }
+    }
 }
