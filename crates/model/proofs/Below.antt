@@ -179,6 +179,13 @@ all-not p zero e = conflict refl e
 all-not p (suc n) e =
     either (allBelow p n) (λ t. (n, omega arith, rw t at e)) (λ t. let r = all-not p n t in (r .0, omega (arith, r .1), r .2))
 
+-- for a loop that goes up with "all before i": one fails; it has come to its end
+pub all-end : (p : ℕ → Bool) (n i : ℕ) → i ≤ n → n ≤ i → ((k : ℕ) → k < i → p k ≡ true) → true ≡ allBelow p n
+all-end p n i l m h = sym (all-intro p n (λ k o. h k (omega arith)))
+
+pub all-stop : (p : ℕ → Bool) (n i : ℕ) → i < n → p i ≡ false → false ≡ allBelow p n
+all-stop p n i l e = sym (all-fails p n i l e)
+
 pub any-none : (p : ℕ → Bool) (n : ℕ) → ((i : ℕ) → i < n → p i ≡ false) → anyBelow p n ≡ false
 any-none p n h = join-all _||_ false refl p n h
 

@@ -2,11 +2,12 @@
 ghost use mathlib.Core.Path.{_≡_};
 ghost use Prim.Native.Nat.{ℕ, _+_, _<_, _≤_};
 ghost use lib.ListN.{length};
-ghost use Rattle.model.specs.Below.{at};
+ghost use Rattle.model.specs.Below.{at, allBelow};
 ghost use Rattle.model.specs.Field.{two, planBody, tableBody, bodyOf, stepIn, planStep, placeAfter};
 ghost use mathlib.Core.Bool.{not, _||_};
 ghost use lib.Dec.{ltb, leb};
 ghost use Rattle.model.specs.Plan.{keyOf, settingsGood, inOrder, headerIn, taskIn, edgeIn, tagged, fieldBy, fieldOf, readingOf};
+ghost use Rattle.plan.specs.Order.{passesBy, readyBy, nextBy};
 ghost use Rattle.plan.specs.Planned.{filled, parsedBy, afterHeader, afterTask, afterEdge};
 use model::Bus;
 use model::Fault;
@@ -462,4 +463,63 @@ fn parse(
             }
         }
     }
+}
+
+fn index(x: u8) -> usize
+    ensures { λ r. ⌜ r ≡ x ⌝ }
+{
+    x as usize
+}
+
+// Edge e does not keep a task waiting: it ends elsewhere, or its source is taken.
+fn passes(sources: &[u8], targets: &[u8], marks: &[u8; 64], task: usize, e: usize) -> bool
+    requires { ⌜ (length (now targets) ≡ length (now sources)) × (e < length (now sources)) × (at (now sources) e < 64) ⌝ }
+    ensures { λ r. ⌜ r ≡ passesBy (now (sources .entry)) (now (targets .entry)) (now (marks .entry)) task e ⌝ }
+{
+    if index(targets[e]) == task {
+        let s = index(sources[e]);
+        return 0 < marks[s];
+    }
+    true
+}
+
+fn sources_taken(sources: &[u8], targets: &[u8], marks: &[u8; 64], task: usize) -> bool
+    requires { ⌜ (length (now targets) ≡ length (now sources)) × ((e : ℕ) → e < length (now sources) → at (now sources) e < 64) ⌝ }
+    ensures { λ r. ⌜ r ≡ allBelow (passesBy (now (sources .entry)) (now (targets .entry)) (now (marks .entry)) task) (length (now (sources .entry))) ⌝ }
+{
+    let mut e: usize = 0;
+    while e < sources.len() {
+        if passes(sources, targets, marks, task, e) {
+            e += 1;
+        } else {
+            return false;
+        }
+    }
+    true
+}
+
+// A task that is not taken and whose sources are all taken.
+fn is_ready(sources: &[u8], targets: &[u8], marks: &[u8; 64], task: usize) -> bool
+    requires { ⌜ (task < 64) × (length (now targets) ≡ length (now sources)) × ((e : ℕ) → e < length (now sources) → at (now sources) e < 64) ⌝ }
+    ensures { λ r. ⌜ r ≡ readyBy (now (sources .entry)) (now (targets .entry)) (now (marks .entry)) task ⌝ }
+{
+    if 0 < marks[task] {
+        return false;
+    }
+    sources_taken(sources, targets, marks, task)
+}
+
+// The lowest-numbered task that is ready, or the number of tasks.
+fn next_ready(tasks: usize, sources: &[u8], targets: &[u8], marks: &[u8; 64]) -> usize
+    requires { ⌜ (tasks ≤ 64) × (length (now targets) ≡ length (now sources)) × ((e : ℕ) → e < length (now sources) → at (now sources) e < 64) ⌝ }
+    ensures { λ r. ⌜ r ≡ nextBy tasks (now (sources .entry)) (now (targets .entry)) (now (marks .entry)) ⌝ }
+{
+    let mut i: usize = 0;
+    while i < tasks {
+        if is_ready(sources, targets, marks, i) {
+            return i;
+        }
+        i += 1;
+    }
+    tasks
 }

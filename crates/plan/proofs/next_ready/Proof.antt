@@ -1,0 +1,55 @@
+-- `plan::next_ready` meets its contract. No task before this one is ready.
+use Rattle.plan.specs.Order.{readyBy, nextBy}
+use Rattle.model.proofs.Below.{first-here, first-none}
+use lib.ListN.{length}
+use Prim.Native.Nat.{ℕ, _≤_, _<_, _-_}
+use mathlib.Core.Bool.{true, false}
+use mathlib.Core.Path.{_≡_, sym, _∙_}
+use native.Mathlib.Omega.{arith}
+use borrow.Author.Count.{below-more}
+use borrow.Author.Needs.{needs}
+use Rattle.plan.proofs.next_ready.Statement.{statement}
+use Rattle.plan.proofs.next_ready.Tie as tie
+
+abbrev Inv-loop : tie.InvT-loop
+Inv-loop tasks sources targets marks i₀ i = (i ≤ tasks) × ((k : ℕ) → k < i → readyBy sources targets marks k ≡ false)
+
+abbrev μ-loop : tie.MeasureT-loop
+μ-loop tasks sources targets marks i₀ i = tasks - i
+
+loop-holds : tie.Need-loop-holds Inv-loop μ-loop
+loop-holds c = (search needs, λ k l. absurd (omega arith))
+
+is-ready-requires : tie.Need-is-ready-requires Inv-loop μ-loop
+is-ready-requires c κs = let s = c .before .before .before .before in (omega arith, s .pre .1, s .pre .2)
+
+returns : tie.Need-returns Inv-loop μ-loop
+unfolding nextBy
+returns c = first-here _ _ _ (c .before .before .loop-test .taken) (c .before .before .before .loop .inv .1) (sym (c .before .is-ready .ensures) ∙ c .if1 .taken)
+
+add-i : tie.Need-add-i Inv-loop μ-loop
+add-i c = search needs
+
+loop-less : tie.Need-loop-less Inv-loop μ-loop
+loop-less c = search needs
+
+loop-again : tie.Need-loop-again Inv-loop μ-loop
+loop-again c = (search needs, below-more _ _ (c .before .before .before .loop .inv .1) (sym (c .before .is-ready .ensures) ∙ c .if1 .left))
+
+returns-2 : tie.Need-returns-2 Inv-loop μ-loop
+unfolding nextBy
+returns-2 c = first-none _ _ _ (c .before .loop .inv .0) (c .loop-test .left) (c .before .loop .inv .1)
+
+pub next-ready-spec : {M : Type 1} → statement M
+next-ready-spec =
+    tie.close
+    (tie.spec
+    Inv-loop
+    μ-loop
+    loop-holds
+    is-ready-requires
+    returns
+    add-i
+    loop-less
+    loop-again
+    returns-2)
