@@ -168,7 +168,7 @@ module _ (p : Plan) where
   abbrev pub Stuck : List ℕ → Type 0
   Stuck o = (i : ℕ) → i < tasks p → ready p o i ≡ false
 
-  next-ready : (o : List ℕ) → nextTask p o < tasks p → ready p o (nextTask p o) ≡ true
+  pub next-ready : (o : List ℕ) → nextTask p o < tasks p → ready p o (nextTask p o) ≡ true
   unfolding nextTask
   next-ready o h = first (ready p o) (tasks p) .here h
 

@@ -14,18 +14,17 @@ use Rattle.model.specs.Plan.{Plan, Reading, tasks, edges, cores, source, target
 use Rattle.model.specs.Plan.{seen as seenOf}
 use Rattle.model.specs.declared.Bus.{Bus}
 use Rattle.model.specs.declared.Refusal.{Refusal}
+use Rattle.model.specs.declared.Check.{Check}
 use Rattle.model.specs.declared.Check.the-variants.{Good, Bad}
 use Rattle.model.specs.declared.Seen.{Seen}
 use Rattle.model.specs.declared.Taken.{Taken}
 use Rattle.model.specs.declared.Taken.the-variants.{Header, Task, Edge, Complete, Refused}
 use Rattle.model.proofs.Plan.{Took, HeaderTaken, TaskTaken, EdgeTaken, AllTaken, took, reading-on, snoc-length, snoc-new, Partly, partly-none, partly-header, partly-task, partly-edge}
-use Rattle.plan.specs.Planned.{shapeOf, parsedBy, filled, afterHeader, afterTask, afterEdge}
-use Rattle.plan.specs.declared.Planned.{Planned}
-use Rattle.plan.specs.declared.Planned.the-variants.{Whole}
-use Rattle.plan.specs.declared.Planned.the-variants.{Refused as NotPlanned}
+use Rattle.plan.specs.Planned.{parsedBy, filled, afterHeader, afterTask, afterEdge}
+use Rattle.plan.specs.declared.Parsed.{Parsed}
 
 -- ---- columns
-filled-none : (l : List ℕ) → l ≡ filled [] l
+pub filled-none : (l : List ℕ) → l ≡ filled [] l
 unfolding filled
 filled-none l = refl
 
@@ -36,7 +35,7 @@ sets-more (y ∷ a) x l i =
     rw e (sets-more a x (set l i y) (suc i))
 
 -- one entry more, stored behind the others
-filled-more : (front l column : List ℕ) (i x : ℕ) → column ≡ filled front l → i ≡ length front → set column i x ≡ filled (front ++ (x ∷ [])) l
+pub filled-more : (front l column : List ℕ) (i x : ℕ) → column ≡ filled front l → i ≡ length front → set column i x ≡ filled (front ++ (x ∷ [])) l
 unfolding filled
 filled-more front l column i x e q = rw (e, q, ← zero-add (length front)) (sets-more front x l 0)
 
@@ -202,19 +201,19 @@ module _ (bytes c₀ s₀ t₀ a₀ c s t a : List ℕ) (b : Bus) (k : Seen) (f 
       subst (From bytes c₀ s₀ t₀ a₀ c (set s (k .edges) from) (set t (k .edges) to) (set a (k .edges) words) b) (sym q) (from-edge e)
 
   -- the end
-  abbrev Ended : Planned → Type 0
+  abbrev Ended : Parsed → Type 0
   Ended r =
-      (r ≡ parsedBy (readingOf bytes .plan) (readingOf bytes .check))
+      (r ≡ parsedBy (readingOf bytes))
       × ((c ≡ filled (readingOf bytes .plan .costs) c₀)
       × (s ≡ filled (readingOf bytes .plan .sources) s₀)
       × (t ≡ filled (readingOf bytes .plan .targets) t₀)
       × (a ≡ filled (readingOf bytes .plan .amounts) a₀))
 
-  ended : (r : Planned) (y : Reading) → y .plan ≡ f .sofar → y ≡ readingOf bytes → r ≡ parsedBy (y .plan) (y .check) → Ended r
+  ended : (r : Parsed) (y : Reading) → y .plan ≡ f .sofar → y ≡ readingOf bytes → r ≡ parsedBy y → Ended r
   ended r y p q e =
       let sp : f .sofar ≡ readingOf bytes .plan = sym p ∙ ap (λ (z : Reading). z .plan) q in
       (
-        e ∙ ap (λ (z : Reading). parsedBy (z .plan) (z .check)) q,
+        e ∙ ap parsedBy q,
         (
           f .with-costs ∙ ap (λ (z : Plan). filled (z .costs) c₀) sp,
           f .with-sources ∙ ap (λ (z : Plan). filled (z .sources) s₀) sp,
@@ -223,10 +222,11 @@ module _ (bytes c₀ s₀ t₀ a₀ c s t a : List ℕ) (b : Bus) (k : Seen) (f 
         ),
       )
 
-  pub from-complete : x ≡ Complete → Ended (Whole (record { bus = b; tasks = k .tasks; edges = k .edges }))
-  from-complete e =
-      ended _ (record { plan = f .sofar; check = Good }) refl (reading e)
-      (λ i. Whole (record { bus = f .bus i; tasks = tasks-is i; edges = edges-is i }))
+  shaped : (x : Check) → (record { check = x; shape = record { bus = b; tasks = k .tasks; edges = k .edges } }) ≡ parsedBy (record { plan = f .sofar; check = x })
+  shaped x = λ i. record { check = x; shape = record { bus = f .bus i; tasks = tasks-is i; edges = edges-is i } }
 
-  pub from-refused : {r : Refusal} → x ≡ Refused r → Ended (NotPlanned r)
-  from-refused {r} e = ended _ (record { plan = f .sofar; check = Bad r }) refl (reading e) refl
+  pub from-complete : x ≡ Complete → Ended (record { check = Good; shape = record { bus = b; tasks = k .tasks; edges = k .edges } })
+  from-complete e = ended _ (record { plan = f .sofar; check = Good }) refl (reading e) (shaped Good)
+
+  pub from-refused : {r : Refusal} → x ≡ Refused r → Ended (record { check = Bad r; shape = record { bus = b; tasks = k .tasks; edges = k .edges } })
+  from-refused {r} e = ended _ (record { plan = f .sofar; check = Bad r }) refl (reading e) (shaped (Bad r))

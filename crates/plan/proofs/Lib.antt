@@ -1,3 +1,4 @@
 pub mod Ways
 pub mod Fields
 pub mod Marks
+pub mod Whole

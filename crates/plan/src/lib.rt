@@ -7,9 +7,12 @@ ghost use Rattle.model.specs.Field.{two, planBody, tableBody, bodyOf, stepIn, p
 ghost use mathlib.Core.Bool.{not, _||_};
 ghost use lib.Dec.{ltb, leb};
 ghost use Rattle.model.specs.Plan.{keyOf, settingsGood, inOrder, headerIn, taskIn, edgeIn, tagged, fieldBy, fieldOf, readingOf};
-ghost use Rattle.plan.specs.Order.{passesBy, readyBy, nextBy};
-ghost use Rattle.plan.specs.Planned.{filled, parsedBy, afterHeader, afterTask, afterEdge};
+ghost use Rattle.model.specs.Refusals.{refusal, refuseIf};
+ghost use Rattle.model.specs.Graph.{leftOver, listOrder};
+ghost use Rattle.plan.specs.Order.{graphOf, passesBy, readyBy, nextBy};
+ghost use Rattle.plan.specs.Planned.{filled, parsedBy, planRead, afterHeader, afterTask, afterEdge};
 use model::Bus;
+use model::Check;
 use model::Fault;
 use model::Refusal;
 use model::Seen;
@@ -361,9 +364,10 @@ pub struct Shape {
     pub edges: usize,
 }
 
-pub enum Planned {
-    Whole(Shape),
-    Refused(Refusal),
+// What the fields come to: the first refusal, if there is one, and what was read before.
+pub struct Parsed {
+    pub check: Check,
+    pub shape: Shape,
 }
 
 // Behind the header, behind a task, behind an edge.
@@ -412,8 +416,8 @@ fn parse(
     sources: &mut [u8; 256],
     targets: &mut [u8; 256],
     amounts: &mut [u16; 256],
-) -> Planned
-    ensures answer { λ r. ⌜ r ≡ parsedBy (readingOf (now (plan .entry)) .plan) (readingOf (now (plan .entry)) .check) ⌝ }
+) -> Parsed
+    ensures answer { λ r. ⌜ r ≡ parsedBy (readingOf (now (plan .entry))) ⌝ }
     ensures columns { λ r. ⌜ (now (costs .exit) ≡ filled (readingOf (now (plan .entry)) .plan .costs) (now (costs .entry))) × (now (sources .exit) ≡ filled (readingOf (now (plan .entry)) .plan .sources) (now (sources .entry))) × (now (targets .exit) ≡ filled (readingOf (now (plan .entry)) .plan .targets) (now (targets .entry))) × (now (amounts .exit) ≡ filled (readingOf (now (plan .entry)) .plan .amounts) (now (amounts .entry))) ⌝ }
 {
     let mut bus = Bus {
@@ -452,14 +456,24 @@ fn parse(
                 seen = after_edge(seen, source, target, next);
             }
             Taken::Complete => {
-                return Planned::Whole(Shape {
-                    bus,
-                    tasks: seen.tasks,
-                    edges: seen.edges,
-                });
+                return Parsed {
+                    check: Check::Good,
+                    shape: Shape {
+                        bus,
+                        tasks: seen.tasks,
+                        edges: seen.edges,
+                    },
+                };
             }
             Taken::Refused(r) => {
-                return Planned::Refused(r);
+                return Parsed {
+                    check: Check::Bad(r),
+                    shape: Shape {
+                        bus,
+                        tasks: seen.tasks,
+                        edges: seen.edges,
+                    },
+                };
             }
         }
     }
@@ -472,8 +486,14 @@ fn index(x: u8) -> usize
 }
 
 // Edge e does not keep a task waiting: it ends elsewhere, or its source is taken.
-fn passes(sources: &[u8], targets: &[u8], marks: &[u8; 64], task: usize, e: usize) -> bool
-    requires { ⌜ (length (now targets) ≡ length (now sources)) × (e < length (now sources)) × (at (now sources) e < 64) ⌝ }
+fn passes(
+    sources: &[u8; 256],
+    targets: &[u8; 256],
+    marks: &[u8; 64],
+    task: usize,
+    e: usize,
+) -> bool
+    requires { ⌜ (e < 256) × (at (now sources) e < 64) ⌝ }
     ensures { λ r. ⌜ r ≡ passesBy (now (sources .entry)) (now (targets .entry)) (now (marks .entry)) task e ⌝ }
 {
     if index(targets[e]) == task {
@@ -483,12 +503,18 @@ fn passes(sources: &[u8], targets: &[u8], marks: &[u8; 64], task: usize, e: usiz
     true
 }
 
-fn sources_taken(sources: &[u8], targets: &[u8], marks: &[u8; 64], task: usize) -> bool
-    requires { ⌜ (length (now targets) ≡ length (now sources)) × ((e : ℕ) → e < length (now sources) → at (now sources) e < 64) ⌝ }
-    ensures { λ r. ⌜ r ≡ allBelow (passesBy (now (sources .entry)) (now (targets .entry)) (now (marks .entry)) task) (length (now (sources .entry))) ⌝ }
+fn sources_taken(
+    edges: usize,
+    sources: &[u8; 256],
+    targets: &[u8; 256],
+    marks: &[u8; 64],
+    task: usize,
+) -> bool
+    requires { ⌜ (edges ≤ 256) × ((e : ℕ) → e < edges → at (now sources) e < 64) ⌝ }
+    ensures { λ r. ⌜ r ≡ allBelow (passesBy (now (sources .entry)) (now (targets .entry)) (now (marks .entry)) task) edges ⌝ }
 {
     let mut e: usize = 0;
-    while e < sources.len() {
+    while e < edges {
         if passes(sources, targets, marks, task, e) {
             e += 1;
         } else {
@@ -499,27 +525,150 @@ fn sources_taken(sources: &[u8], targets: &[u8], marks: &[u8; 64], task: usize) 
 }
 
 // A task that is not taken and whose sources are all taken.
-fn is_ready(sources: &[u8], targets: &[u8], marks: &[u8; 64], task: usize) -> bool
-    requires { ⌜ (task < 64) × (length (now targets) ≡ length (now sources)) × ((e : ℕ) → e < length (now sources) → at (now sources) e < 64) ⌝ }
-    ensures { λ r. ⌜ r ≡ readyBy (now (sources .entry)) (now (targets .entry)) (now (marks .entry)) task ⌝ }
+fn is_ready(
+    edges: usize,
+    sources: &[u8; 256],
+    targets: &[u8; 256],
+    marks: &[u8; 64],
+    task: usize,
+) -> bool
+    requires { ⌜ (task < 64) × (edges ≤ 256) × ((e : ℕ) → e < edges → at (now sources) e < 64) ⌝ }
+    ensures { λ r. ⌜ r ≡ readyBy edges (now (sources .entry)) (now (targets .entry)) (now (marks .entry)) task ⌝ }
 {
     if 0 < marks[task] {
         return false;
     }
-    sources_taken(sources, targets, marks, task)
+    sources_taken(edges, sources, targets, marks, task)
 }
 
 // The lowest-numbered task that is ready, or the number of tasks.
-fn next_ready(tasks: usize, sources: &[u8], targets: &[u8], marks: &[u8; 64]) -> usize
-    requires { ⌜ (tasks ≤ 64) × (length (now targets) ≡ length (now sources)) × ((e : ℕ) → e < length (now sources) → at (now sources) e < 64) ⌝ }
-    ensures { λ r. ⌜ r ≡ nextBy tasks (now (sources .entry)) (now (targets .entry)) (now (marks .entry)) ⌝ }
+fn next_ready(
+    tasks: usize,
+    edges: usize,
+    sources: &[u8; 256],
+    targets: &[u8; 256],
+    marks: &[u8; 64],
+) -> usize
+    requires { ⌜ (tasks ≤ 64) × (edges ≤ 256) × ((e : ℕ) → e < edges → at (now sources) e < 64) ⌝ }
+    ensures { λ r. ⌜ r ≡ nextBy tasks edges (now (sources .entry)) (now (targets .entry)) (now (marks .entry)) ⌝ }
 {
     let mut i: usize = 0;
     while i < tasks {
-        if is_ready(sources, targets, marks, i) {
+        if is_ready(edges, sources, targets, marks, i) {
             return i;
         }
         i += 1;
     }
     tasks
+}
+
+// The list order of a graph, into a lent list, and how many tasks it has: all of them exactly where no task reaches itself.
+// Two bytes are kept for each task: its mark and its entry in the list.
+fn list_order(
+    tasks: usize,
+    edges: usize,
+    sources: &[u8; 256],
+    targets: &[u8; 256],
+    order: &mut [u8; 64],
+) -> usize
+    requires { ⌜ (tasks ≤ 64) × (edges ≤ 256) × (edges ≤ length (now sources)) × ((e : ℕ) → e < edges → at (now sources) e < tasks) ⌝ }
+    ensures { λ r. ⌜ (r ≡ length (listOrder (graphOf tasks edges (now (sources .entry)) (now (targets .entry))))) × (now (order .exit) ≡ filled (listOrder (graphOf tasks edges (now (sources .entry)) (now (targets .entry)))) (now (order .entry))) ⌝ }
+{
+    let mut marks = [0u8; 64];
+    let mut taken: usize = 0;
+    while taken < tasks {
+        let i = next_ready(tasks, edges, sources, targets, &marks);
+        if tasks <= i {
+            return taken;
+        }
+        order[taken] = i as u8;
+        marks[i] = 1;
+        taken += 1;
+    }
+    taken
+}
+
+// A decoded plan: its execute times and its list order by task, its sources, targets and words by edge, each from the
+// front of its column.
+pub struct Columns {
+    pub bus: Bus,
+    pub tasks: usize,
+    pub edges: usize,
+    pub costs: [u16; 64],
+    pub order: [u8; 64],
+    pub sources: [u8; 256],
+    pub targets: [u8; 256],
+    pub amounts: [u16; 256],
+}
+
+// What reading a plan comes to: the first refusal, if there is one, and the plan; of a refused one, what was read before.
+pub struct PlanRead {
+    pub check: Check,
+    pub columns: Columns,
+}
+
+// The cycle test of the fields that were read: refusal 7, or all tasks in the list order.
+fn order_check(
+    shape: Shape,
+    place: usize,
+    sources: &[u8; 256],
+    targets: &[u8; 256],
+    order: &mut [u8; 64],
+) -> Check
+    requires { ⌜ (shape .tasks ≤ 64) × (shape .edges ≤ 256) × (shape .edges ≤ length (now sources)) × ((e : ℕ) → e < shape .edges → at (now sources) e < shape .tasks) ⌝ }
+    ensures { λ r. ⌜ (r ≡ refuseIf (leftOver (graphOf (shape .tasks) (shape .edges) (now (sources .entry)) (now (targets .entry)))) (refusal Fault.Cyclic Side.OfPlan place)) × (now (order .exit) ≡ filled (listOrder (graphOf (shape .tasks) (shape .edges) (now (sources .entry)) (now (targets .entry)))) (now (order .entry))) ⌝ }
+{
+    let taken = list_order(shape.tasks, shape.edges, sources, targets, order);
+    if taken < shape.tasks {
+        return Check::Bad(Refusal {
+            fault: Fault::Cyclic,
+            side: Side::OfPlan,
+            place,
+        });
+    }
+    Check::Good
+}
+
+// The plan that bytes are.
+pub fn read_plan(plan: &[u8]) -> PlanRead
+    ensures { λ r. ⌜ r ≡ planRead (now (plan .entry)) ⌝ }
+{
+    let mut costs = [0u16; 64];
+    let mut order = [0u8; 64];
+    let mut sources = [0u8; 256];
+    let mut targets = [0u8; 256];
+    let mut amounts = [0u16; 256];
+    let parsed = parse(plan, &mut costs, &mut sources, &mut targets, &mut amounts);
+    let shape = parsed.shape;
+    let bus = shape.bus;
+    let fields = parsed.check;
+    if let Check::Bad(r) = fields {
+        return PlanRead {
+            check: Check::Bad(r),
+            columns: Columns {
+                bus,
+                tasks: shape.tasks,
+                edges: shape.edges,
+                costs,
+                order,
+                sources,
+                targets,
+                amounts,
+            },
+        };
+    }
+    let check = order_check(shape, plan.len(), &sources, &targets, &mut order);
+    PlanRead {
+        check,
+        columns: Columns {
+            bus,
+            tasks: shape.tasks,
+            edges: shape.edges,
+            costs,
+            order,
+            sources,
+            targets,
+            amounts,
+        },
+    }
 }

@@ -12,16 +12,16 @@ use Rattle.plan.proofs.next_ready.Statement.{statement}
 use Rattle.plan.proofs.next_ready.Tie as tie
 
 abbrev Inv-loop : tie.InvT-loop
-Inv-loop tasks sources targets marks i₀ i = (i ≤ tasks) × ((k : ℕ) → k < i → readyBy sources targets marks k ≡ false)
+Inv-loop tasks edges sources targets marks i₀ i = (i ≤ tasks) × ((k : ℕ) → k < i → readyBy edges sources targets marks k ≡ false)
 
 abbrev μ-loop : tie.MeasureT-loop
-μ-loop tasks sources targets marks i₀ i = tasks - i
+μ-loop tasks edges sources targets marks i₀ i = tasks - i
 
 loop-holds : tie.Need-loop-holds Inv-loop μ-loop
 loop-holds c = (search needs, λ k l. absurd (omega arith))
 
 is-ready-requires : tie.Need-is-ready-requires Inv-loop μ-loop
-is-ready-requires c κs = let s = c .before .before .before .before in (omega arith, s .pre .1, s .pre .2)
+is-ready-requires c κs = let s = c .before .before in (omega arith, s .pre .1, s .pre .2)
 
 returns : tie.Need-returns Inv-loop μ-loop
 unfolding nextBy

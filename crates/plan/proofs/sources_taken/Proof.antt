@@ -12,16 +12,16 @@ use Rattle.plan.proofs.sources_taken.Statement.{statement}
 use Rattle.plan.proofs.sources_taken.Tie as tie
 
 abbrev Inv-loop : tie.InvT-loop
-Inv-loop sources targets marks task e₀ e = (e ≤ length sources) × ((k : ℕ) → k < e → passesBy sources targets marks task k ≡ true)
+Inv-loop edges sources targets marks task e₀ e = (e ≤ edges) × ((k : ℕ) → k < e → passesBy sources targets marks task k ≡ true)
 
 abbrev μ-loop : tie.MeasureT-loop
-μ-loop sources targets marks task e₀ e = length sources - e
+μ-loop edges sources targets marks task e₀ e = edges - e
 
 loop-holds : tie.Need-loop-holds Inv-loop μ-loop
 loop-holds c = (search needs, λ k l. absurd (omega arith))
 
 passes-requires : tie.Need-passes-requires Inv-loop μ-loop
-passes-requires c κs = let s = c .before .before .before .before in (s .pre .0, c .loop-test .taken, s .pre .1 (c .before .loop .e) (c .loop-test .taken))
+passes-requires c κs = let s = c .before .before in (omega arith, s .pre .1 (c .before .loop .e) (c .loop-test .taken))
 
 add-e : tie.Need-add-e Inv-loop μ-loop
 add-e c = search needs

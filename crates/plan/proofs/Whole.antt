@@ -1,0 +1,166 @@
+-- From the fields and the list order to the plan that was read, and what its columns hold for the callers. Assumes nothing.
+use mathlib.Core.Path.{_≡_, refl, sym, ap, subst, _∙_}
+use mathlib.Core.List.{List, _++_}
+use Prim.Native.Nat.{ℕ, _≤_, _<_}
+use native.Mathlib.Omega.{arith}
+use lib.ListN.{length, drop, take, replicate, length-replicate, List·getD-append}
+use lib.Seq.{take-append-seam}
+use Rattle.model.specs.Below.{at}
+use Rattle.model.specs.Refusals.{refusal, refuseIf, orElse}
+use Rattle.model.specs.Plan.{Plan, Reading, tasks, edges, source, readingOf}
+use Rattle.model.specs.Graph.{listOrder, leftOver}
+use Rattle.model.specs.declared.Fault.the-variants.{Cyclic}
+use Rattle.model.specs.declared.Side.the-variants.{OfPlan}
+use Rattle.model.specs.declared.Refusal.{Refusal}
+use Rattle.model.specs.declared.Check.{Check}
+use Rattle.model.specs.declared.Check.the-variants.{Good, Bad}
+use Rattle.model.proofs.Plan.{Read, plan-valid}
+use Rattle.plan.specs.Order.{graphOf}
+use Rattle.plan.specs.Planned.{parsedBy, filled, orderBy, columnsOf, planCheck, planRead}
+use Rattle.plan.specs.declared.Parsed.{Parsed}
+use Rattle.plan.specs.declared.Shape.{Shape}
+use Rattle.plan.specs.declared.Columns.{Columns}
+use Rattle.plan.specs.declared.PlanRead.{PlanRead}
+use Rattle.plan.proofs.Fields.{filled-front, filled-length}
+use Rattle.plan.proofs.Marks.{order-graph, left-graph}
+
+-- the entries at a column's front
+pub filled-at : (front l : List ℕ) (i : ℕ) → length front ≤ length l → i < length front → at (filled front l) i ≡ at front i
+filled-at front l i h k = rw (filled-front front l h) (List·getD-append front (drop (length front) l) 0 i k)
+
+pub filled-take : (front l : List ℕ) (n : ℕ) → n ≡ length front → length front ≤ length l → take n (filled front l) ≡ front
+filled-take front l n e h = rw (e, filled-front front l h) (take-append-seam front (drop (length front) l))
+
+zeros : (n : ℕ) → length (replicate {A = ℕ} n 0) ≡ n
+zeros n = length-replicate n 0
+
+module _ (bytes : List ℕ) (parsed : Parsed) (costs sources targets amounts : List ℕ) (e : parsed ≡ parsedBy (readingOf bytes))
+    (ec : costs ≡ filled (readingOf bytes .plan .costs) (replicate 64 0))
+    (es : sources ≡ filled (readingOf bytes .plan .sources) (replicate 256 0))
+    (et : targets ≡ filled (readingOf bytes .plan .targets) (replicate 256 0))
+    (ea : amounts ≡ filled (readingOf bytes .plan .amounts) (replicate 256 0)) where
+  abbrev p : Plan
+  p = readingOf bytes .plan
+
+  checked : parsed .check ≡ readingOf bytes .check
+  checked = ap (λ (x : Parsed). x .check) e
+
+  shaped : parsed .shape ≡ parsedBy (readingOf bytes) .shape
+  shaped = ap (λ (x : Parsed). x .shape) e
+
+  -- all parts in place
+  whole : (check : Check) (order : List ℕ) → check ≡ planCheck bytes → order ≡ orderBy p (readingOf bytes .check)
+      → (record {
+        check = check;
+        columns =
+            record {
+              bus = parsed .shape .bus;
+              tasks = parsed .shape .tasks;
+              edges = parsed .shape .edges;
+              costs = costs;
+              order = order;
+              sources = sources;
+              targets = targets;
+              amounts = amounts;
+            };
+      }) ≡ planRead bytes
+  unfolding planRead columnsOf
+  whole check order q o =
+      λ i.
+      record {
+        check = q i;
+        columns =
+            record {
+              bus = shaped i .bus;
+              tasks = shaped i .tasks;
+              edges = shaped i .edges;
+              costs = ec i;
+              order = o i;
+              sources = es i;
+              targets = et i;
+              amounts = ea i;
+            };
+      }
+
+  -- a field was refused
+  pub fields-bad : {r : Refusal} → parsed .check ≡ Bad r → (record {
+        check = Bad r;
+        columns =
+            record {
+              bus = parsed .shape .bus;
+              tasks = parsed .shape .tasks;
+              edges = parsed .shape .edges;
+              costs = costs;
+              order = replicate 64 0;
+              sources = sources;
+              targets = targets;
+              amounts = amounts;
+            };
+      }) ≡ planRead bytes
+  unfolding planCheck
+  fields-bad {r} b =
+      let q : readingOf bytes .check ≡ Bad r = sym checked ∙ b in
+      whole (Bad r) (replicate 64 0) (rw q) (rw q)
+
+  module _ (g : parsed .check ≡ Good) where
+    good : readingOf bytes .check ≡ Good
+    good = sym checked ∙ g
+
+    facts : Read bytes p
+    facts = plan-valid bytes good
+
+    pub few-tasks : parsed .shape .tasks ≤ 64
+    few-tasks = omega (arith, ap (λ (s : Shape). s .tasks) shaped, facts .valid .columns .few-tasks)
+
+    pub few-edges : parsed .shape .edges ≤ 256
+    few-edges = omega (arith, ap (λ (s : Shape). s .edges) shaped, facts .valid .columns .few-edges)
+
+    pub sources-long : parsed .shape .edges ≤ length sources
+    sources-long = omega (arith, few-edges, ap length es, filled-length (p .sources) (replicate 256 0), zeros 256)
+
+    pub sources-low : (j : ℕ) → j < parsed .shape .edges → at sources j < parsed .shape .tasks
+    sources-low j h =
+        let n = ap (λ (s : Shape). s .tasks) shaped in
+        let m = ap (λ (s : Shape). s .edges) shaped in
+        let a : at sources j ≡ source p j =
+        ap (λ (l : List ℕ). at l j) es
+        ∙ filled-at (p .sources) (replicate 256 0) j (omega (arith, facts .valid .columns .few-edges, zeros 256)) (omega (arith, m)) in
+        omega (arith, a, n, m, facts .valid .columns .sources-known j (omega (arith, m)))
+
+    sources-take : p .sources ≡ take (edges p) sources
+    sources-take = rw es (sym (filled-take (p .sources) (replicate 256 0) (edges p) refl (omega (arith, facts .valid .columns .few-edges, zeros 256))))
+
+    targets-take : p .targets ≡ take (edges p) targets
+    targets-take =
+        rw et
+        (sym
+        (filled-take (p .targets) (replicate 256 0) (edges p) (sym (facts .valid .columns .targets-all))
+        (omega (arith, facts .valid .columns .few-edges, facts .valid .columns .targets-all, zeros 256))))
+
+    -- all fields are good, and the list order has decided
+    pub fields-good : (check : Check) (order : List ℕ)
+        → check ≡ refuseIf (leftOver (graphOf (parsed .shape .tasks) (parsed .shape .edges) sources targets)) (refusal Cyclic OfPlan (length bytes))
+        → order ≡ filled (listOrder (graphOf (parsed .shape .tasks) (parsed .shape .edges) sources targets)) (replicate 64 0)
+        → (record {
+          check = check;
+          columns =
+              record {
+                bus = parsed .shape .bus;
+                tasks = parsed .shape .tasks;
+                edges = parsed .shape .edges;
+                costs = costs;
+                order = order;
+                sources = sources;
+                targets = targets;
+                amounts = amounts;
+              };
+        }) ≡ planRead bytes
+    unfolding planCheck
+    fields-good check order ck od =
+        let n : parsed .shape .tasks ≡ tasks p = ap (λ (s : Shape). s .tasks) shaped in
+        let m : parsed .shape .edges ≡ edges p = ap (λ (s : Shape). s .edges) shaped in
+        let g : graphOf (parsed .shape .tasks) (parsed .shape .edges) sources targets ≡ graphOf (tasks p) (edges p) sources targets =
+        λ i. graphOf (n i) (m i) sources targets in
+        whole check order
+        (rw good (ck ∙ ap (λ (x : Plan). refuseIf (leftOver x) (refusal Cyclic OfPlan (length bytes))) g ∙ rw (left-graph p sources targets sources-take targets-take)))
+        (rw good (od ∙ ap (λ (x : Plan). filled (listOrder x) (replicate 64 0)) g ∙ rw (order-graph p sources targets sources-take targets-take)))
