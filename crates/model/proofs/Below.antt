@@ -238,6 +238,9 @@ first-le p n = first p n .within
 pub first-found : (p : ℕ → Bool) (n i : ℕ) → i < n → p i ≡ true → firstBelow p n ≤ i
 first-found p n i l e = lt-or-ge i (firstBelow p n) (λ k. conflict e (first p n .before i k)) (λ k. k)
 
+pub any-first : (p : ℕ → Bool) (n : ℕ) → anyBelow p n ≡ true → firstBelow p n < n
+any-first p n e = let w = any-found p n e in omega (arith, first-found p n (w .0) (w .1) (w .2), w .1)
+
 -- nothing else is the first
 pub first-is : (p : ℕ → Bool) (n i : ℕ) → First p n i → i ≡ firstBelow p n
 first-is p n i f =

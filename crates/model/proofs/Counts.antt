@@ -1,11 +1,12 @@
--- The laws of the delay rule: its form with a word's time, that it grows with rivals and words, and the bounds that keep
--- it in 32 bits. Assumes nothing.
+-- The laws of the delay rule: a word's time, the rule's form with it, that it grows with rivals and words, and the
+-- bounds that keep it in 32 bits. Assumes nothing.
 use mathlib.Core.Path.{_≡_, ap}
 use Prim.Native.Nat.{ℕ, _+_, _*_, _-_, _/_, _%_, _≤_, _<_}
 use native.Mathlib.Nat.{div-add-mod', div-le-self, mod-lt, mul-le-mul, mul-le-mul-left, mul-le-mul-right, div-lt-iff-lt-mul, le-div-iff-mul-le, div-mul-le-self, div-eq-of-lt, zero-div, zero-mod, le-trans}
 use native.Mathlib.Omega.{arith}
 use Rattle.model.specs.Counts.{T, D, wordTime, slots, full, delay, Settings}
 use Rattle.model.specs.declared.Bus.{Bus}
+use Rattle.model.proofs.Tests.{pos}
 
 -- T·full + (w mod D)·(T/D) = w·(T/D), when D divides T
 parts : (t d w : ℕ) → t % d ≡ 0 → t * (w / d) + w % d * (t / d) ≡ w * (t / d)
@@ -18,6 +19,13 @@ up-le : (d w : ℕ) → (w + (d - 1)) / d ≤ w + (d - 1)
 up-le d w = div-le-self _ _
 
 module _ (b : Bus) where
+  pub slot-time : T b % D b ≡ 0 → T b ≡ wordTime b * D b
+  unfolding wordTime
+  slot-time h = omega (arith, div-add-mod' (T b) (D b))
+
+  pub word-time : Settings b → 1 ≤ wordTime b
+  word-time s = pos (λ e. omega (arith, slot-time (s .divides), ap (λ (x : ℕ). x * D b) e, s .time-some))
+
   pub own-time : T b % D b ≡ 0 → (w : ℕ) → T b * full b w + w % D b * (T b / D b) ≡ w * wordTime b
   unfolding full wordTime
   own-time h w = parts (T b) (D b) w h

@@ -2,6 +2,8 @@ pub mod Tests
 pub mod Below
 pub mod Counts
 pub mod Refusals
+pub mod BusRule
+pub mod Waits
 pub mod Field
 pub mod Plan
 pub mod Descent
