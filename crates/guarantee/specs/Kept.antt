@@ -8,7 +8,7 @@ use mathlib.Core.Bool.{true}
 use Rattle.model.specs.Below.{sumBelow}
 use Rattle.model.specs.Counts.{wordTime, slots}
 use Rattle.model.specs.Contention.{Phases, Overlap, rivals}
-use Rattle.model.specs.BusRule.{Use, sent, asks, choiceTime, step, play, run, finish, waits, granted, busy}
+use Rattle.model.specs.BusRule.{Use, sent, asks, choiceTime, grantNext, play, run, finish, waits, granted, busy}
 use Rattle.model.specs.declared.Bus.{Bus}
 use Rattle.guarantee.specs.Waiting.{counted, sitsIn, sitsOn, sitsInOn}
 use Rattle.guarantee.specs.Finer.{slotsOn}
@@ -38,7 +38,7 @@ pub record Guarantee (b : Bus) (h : Phases) (u : Use) (r n : ℕ → ℕ) : Type
       (k time x y : ℕ) → time ≤ choiceTime b h u (play b h u k) → x < h .count → y < h .count → h .core x ≡ h .core y
       → asks b h u (play b h u k) time x ≡ true → asks b h u (play b h u k) time y ≡ true → x ≡ y
   -- no grant follows the run; the words granted, and the time for which the bus is held
-  pub ends : step b h u (run b h u) ≡ run b h u
+  pub ends : grantNext b h u (run b h u) ≡ run b h u
   pub all-granted : granted b h u (run b h u) ≡ sumBelow (u .actual) (h .count)
   pub all-busy : busy b h u (run b h u) ≡ wordTime b * sumBelow (u .actual) (h .count)
 

@@ -16,7 +16,7 @@ use lib.Dec.{ltb}
 use lib.ListN.{length, getD, drop, set, length-append, List·getD-append}
 use lib.Seq.{drop-cons, set-at, getD-at}
 use borrow.Author.Tests.{lt-ltb, le-ltb, ltb-true, ltb-false}
-use Rattle.model.specs.Below.{joinBelow, sumBelow, bit, countBelow, maxBelow, allBelow, anyBelow, listBelow, appendBelow, firstBelow, bestBelow, leastBelow, at}
+use Rattle.model.specs.Below.{joinBelow, sumBelow, bit, countBelow, maxBelow, allBelow, anyBelow, listBelow, appendBelow, firstBelow, bestBelow, First, Best, leastBelow, at}
 use Rattle.model.proofs.Tests.{either, conflict, lt-or-ge, same-or-not, below-suc, and-both, or-none, or-left, or-right, or-false}
 
 module _ {A : Type 0} (op : A → A → A) (u : A) where
@@ -204,12 +204,7 @@ any-found p (suc n) e =
 pub any-same : (p q : ℕ → Bool) (n : ℕ) → ((i : ℕ) → i < n → p i ≡ q i) → anyBelow p n ≡ anyBelow q n
 any-same = join-cong _||_ false
 
--- ---- the first: p holds there where it is below n, and nowhere before it
-pub record First (p : ℕ → Bool) (n i : ℕ) : Type 0 where
-  pub within : i ≤ n
-  pub here : i < n → p i ≡ true
-  pub before : (k : ℕ) → k < i → p k ≡ false
-
+-- ---- the first
 first-more : (p : ℕ → Bool) (n i : ℕ) → First p n i → First p (suc n) (cond (ltb i n) i (cond (p n) n (suc n)))
 first-more p n i f =
     lt-or-ge i n
@@ -264,12 +259,7 @@ unfolding firstBelow
 first-same p q zero h = refl
 first-same p q (suc n) h = rw (first-same p q n (λ i l. h i (omega arith)), h n (omega arith))
 
--- ---- the best: none is less, and those before it are more
-pub record Best (f : ℕ → ℕ) (n b : ℕ) : Type 0 where
-  pub least : (i : ℕ) → i < n → f b ≤ f i
-  pub first : (i : ℕ) → i < b → f b < f i
-  pub within : 0 < n → b < n
-
+-- ---- the best
 best-more : (f : ℕ → ℕ) (n b : ℕ) → Best f n b → (0 < n → b < n) → (n ≡ 0 → b ≡ 0) → Best f (suc n) (cond (ltb (f n) (f b)) n b)
 best-more f n b w h z =
     lt-or-ge (f n) (f b)

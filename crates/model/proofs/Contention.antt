@@ -8,7 +8,7 @@ use lib.ListN.{length}
 use lib.Dec.{ltb, eqb}
 use borrow.Author.Tests.{ltb-true, lt-ltb, eq-eqb, ne-eqb, eqb-false, not-true}
 use Rattle.model.specs.Below.{at, sumBelow, countBelow, listBelow}
-use Rattle.model.specs.Plan.{Plan, Columns, tasks, edges, source, target, amount}
+use Rattle.model.specs.Plan.{Plan, Ranges, tasks, edges, source, target, amount}
 use Rattle.model.specs.Contention.{moved, readWords, writeWords, ofPhase, phaseWords, Phases, Overlap, overlap, rival, rivals}
 use Rattle.model.specs.declared.Bus.{Bus}
 use Rattle.model.proofs.Tests.{cond-le, and-both, and-true, same-or-not}
@@ -79,7 +79,7 @@ module _ (h g : Phases) (a : Agree h g) where
       (count-same (rival h x) (rival g x) (h .count) (λ y l. rival-same x y k l) ∙ ap (countBelow (rival g x)) (a .count))
 
 -- ---- words: each sum is at most 256 edges of 4,095 words, at every stage of it
-module _ (p : Plan) (v : Columns p) (core : ℕ → ℕ) where
+module _ (p : Plan) (v : Ranges p) (core : ℕ → ℕ) where
   moved-most : (e : ℕ) → moved p core e ≤ 4095
   unfolding moved
   moved-most e = cond-le (eqb (core (source p e)) (core (target p e))) zero-le (v .amounts-most e)

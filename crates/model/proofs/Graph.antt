@@ -11,7 +11,7 @@ use borrow.Author.Tests.{ltb-true, ltb-false, lt-ltb, le-ltb, eqb-true, eqb-fals
 use Rattle.model.specs.Below.{at, bit, countBelow, firstBelow, allBelow}
 use Rattle.model.specs.Refusals.{refusal, refuseIf, orElse, gives, refuses}
 use Rattle.model.specs.Plan.{Plan, Valid, tasks, edges, source, target, readingOf}
-use Rattle.model.specs.Graph.{Path, edge, then, Cycle, placeOf, taken, ready, nextTask, takeNext, listed, listOrder, leftOver, planOf}
+use Rattle.model.specs.Graph.{Reaches, edge, then, Cycle, placeOf, taken, ready, Listing, nextTask, takeNext, listed, listOrder, leftOver, planOf}
 use Rattle.model.specs.declared.Fault.the-variants.{Cyclic}
 use Rattle.model.specs.declared.Side.the-variants.{OfPlan}
 use Rattle.model.specs.declared.Refusal.{Refusal}
@@ -109,19 +109,10 @@ module _ (p : Plan) where
       let a = all-each (λ e. cond (eqb (target p e) i) (taken o (source p e)) true) (edges p) (and-right (not (taken o i)) _ r) e h in
       rw (eq-eqb (target p e) i q) at a
 
-  pub record Listing (o : List ℕ) : Type 0 where
-    -- each entry is a task, and stands there once
-    pub known : (a : ℕ) → a < length o → at o a < tasks p
-    pub once : (a : ℕ) → a < length o → placeOf o (at o a) ≡ a
-    -- sources come before targets
-    pub rises : (e : ℕ) → e < edges p → taken o (target p e) ≡ true → placeOf o (source p e) < placeOf o (target p e)
-    -- the others are left
-    pub left : countBelow (λ i. not (taken o i)) (tasks p) + length o ≡ tasks p
-
   none-taken : (i : ℕ) → taken [] i ≡ false
   none-taken i = le-ltb (placeOf [] i) 0 (omega arith)
 
-  listing-none : Listing []
+  listing-none : Listing p []
   listing-none =
       record {
         known = λ a h. absurd (omega arith);
@@ -130,7 +121,7 @@ module _ (p : Plan) where
         left = omega (arith, count-all (λ i. not (taken [] i)) (tasks p) (λ i h. rw (none-taken i)));
       }
 
-  listing-more : (o : List ℕ) (i : ℕ) → i < tasks p → ready p o i ≡ true → Listing o → Listing (o ++ (i ∷ []))
+  listing-more : (o : List ℕ) (i : ℕ) → i < tasks p → ready p o i ≡ true → Listing p o → Listing p (o ++ (i ∷ []))
   listing-more o i h r l =
       let u : taken o i ≡ false = ready-untaken o i r in
       let long : length (o ++ (i ∷ [])) ≡ length o + 1 = snoc-length o i in
@@ -176,14 +167,14 @@ module _ (p : Plan) where
   unfolding nextTask
   next-stuck o h i k = first (ready p o) (tasks p) .before i (omega (arith, h))
 
-  listing-next : (o : List ℕ) → Listing o → Listing (takeNext p o)
+  listing-next : (o : List ℕ) → Listing p o → Listing p (takeNext p o)
   unfolding takeNext
   listing-next o l =
-      cond-is Listing (ltb (nextTask p o) (tasks p))
+      cond-is (Listing p) (ltb (nextTask p o) (tasks p))
       (λ t. let h = ltb-true (nextTask p o) (tasks p) t in listing-more o (nextTask p o) h (next-ready o h) l)
       (λ _. l)
 
-  pub listing : (k : ℕ) → Listing (listed p k)
+  pub listing : (k : ℕ) → Listing p (listed p k)
   unfolding listed
   listing zero = listing-none
   listing (suc k) = listing-next (listed p k) (listing k)
@@ -204,7 +195,7 @@ module _ (p : Plan) where
   listed-stuck (suc k) = stuck-next (listed p k) k (listed-stuck k)
 
   -- ---- no task is left over: each has its place, and places rise along every path
-  pub order-listing : Listing (listOrder p)
+  pub order-listing : Listing p (listOrder p)
   unfolding listOrder
   order-listing = listing (tasks p)
 
@@ -238,7 +229,7 @@ module _ (p : Plan) where
       pub order-rises : (e : ℕ) → e < edges p → placeOf (listOrder p) (source p e) < placeOf (listOrder p) (target p e)
       order-rises e h = order-listing .rises e h (order-taken (target p e) (ends e h))
 
-      up : {a b : ℕ} → Path p a b → placeOf (listOrder p) a < placeOf (listOrder p) b
+      up : {a b : ℕ} → Reaches p a b → placeOf (listOrder p) a < placeOf (listOrder p) b
       up (edge e h) = order-rises e h
       up (then x y) = omega (arith, up x, up y)
 
@@ -263,10 +254,10 @@ module _ (p : Plan) where
       let h : length o < tasks p = ltb-true (length o) (tasks p) l in
       let stuck : Stuck o = ⊎-elim (λ e. absurd (omega arith)) (λ s. s) (listed-stuck (tasks p)) in
       let w = count-found (λ i. not (taken o i)) (tasks p) (omega (arith, order-listing .left)) in
-      descent (Path p) (λ a b c x y. then x y) (λ i. not (taken o i)) (tasks p)
+      descent (Reaches p) (λ a b c x y. then x y) (λ i. not (taken o i)) (tasks p)
       (λ i k u.
       let s = unready-source o i u (stuck i k) in
-      record { from = source p (s .0); low = ends (s .0) (s .1); kept = s .3; leads = subst (Path p (source p (s .0))) (s .2) (edge (s .0) (s .1)) })
+      record { from = source p (s .0); low = ends (s .0) (s .1); kept = s .3; leads = subst (Reaches p (source p (s .0))) (s .2) (edge (s .0) (s .1)) })
       (w .0) (w .1) (w .2)
 
 -- ---- the plan that bytes are
@@ -279,7 +270,7 @@ plan-read bytes {p} e =
     (subst (Read bytes) (a .1) (plan-valid bytes (b .0)), subst (λ (q : Plan). leftOver q ≡ false) (a .1) (not-refused _ _ (b .1)))
 
 pub plan-acyclic : (bytes : List ℕ) {p : Plan} → planOf bytes ≡ gives p → Cycle p → ⊥
-plan-acyclic bytes {p} e = let r = plan-read bytes e in no-cycle p (r .1) (r .0 .valid .columns .targets-known)
+plan-acyclic bytes {p} e = let r = plan-read bytes e in no-cycle p (r .1) (r .0 .valid .ranges .targets-known)
 
 -- refusal 7: the fields are good, and some task reaches itself
 pub cyclic-refused : (bytes : List ℕ) → readingOf bytes .check ≡ Good → Cycle (readingOf bytes .plan) → planOf bytes ≡ refuses (refusal Cyclic OfPlan (length bytes))
@@ -288,7 +279,7 @@ cyclic-refused bytes g c =
     let v = plan-valid bytes g in
     either (leftOver (readingOf bytes .plan))
     (λ t. rw (g, t))
-    (λ t. absurd (no-cycle (readingOf bytes .plan) t (v .valid .columns .targets-known) c))
+    (λ t. absurd (no-cycle (readingOf bytes .plan) t (v .valid .ranges .targets-known) c))
 
 pub refused-cyclic : (bytes : List ℕ) → readingOf bytes .check ≡ Good → {r : Refusal} → planOf bytes ≡ refuses r → Cycle (readingOf bytes .plan)
 unfolding planOf
@@ -297,4 +288,4 @@ refused-cyclic bytes g {r} e =
     let last = refuseIf (leftOver (readingOf bytes .plan)) (refusal Cyclic OfPlan (length bytes)) in
     let b : orElse (readingOf bytes .check) last ≡ Bad r = stopped _ _ e in
     let c = refused (leftOver (readingOf bytes .plan)) (refusal Cyclic OfPlan (length bytes)) (rw g at b) in
-    some-cycle (readingOf bytes .plan) (v .valid .columns .sources-known) (c .0)
+    some-cycle (readingOf bytes .plan) (v .valid .ranges .sources-known) (c .0)

@@ -12,7 +12,7 @@ use borrow.Author.Tests.{ltb-true, ltb-false, leb-true, leb-false, le-leb, eqb-t
 use Rattle.model.specs.Below.{at}
 use Rattle.model.specs.Counts.{T, D, Settings}
 use Rattle.model.specs.Field.{two, planBody, planStep}
-use Rattle.model.specs.Plan.{Plan, Columns, Valid, Reading, tasks, edges, cores, cost, source, target, amount, keyOf, settingsGood, inOrder, headerIn, taskIn, edgeIn, fieldBy, fieldOf, noPlan, withBus, withTask, withEdge, leastKey, seen, onWith, fieldsFrom, readingFrom, readingOf}
+use Rattle.model.specs.Plan.{Plan, Ranges, Valid, Reading, tasks, edges, cores, cost, source, target, amount, keyOf, settingsGood, inOrder, headerIn, taskIn, edgeIn, fieldBy, fieldOf, noPlan, withBus, withTask, withEdge, leastKey, seen, onWith, fieldsFrom, readingFrom, readingOf}
 use Rattle.model.specs.declared.Bus.{Bus}
 use Rattle.model.specs.declared.Side.the-variants.{OfPlan}
 use Rattle.model.specs.declared.Refusal.{Refusal}
@@ -38,6 +38,7 @@ pub record TaskTaken (bytes : List ℕ) (s : Seen) (c next : ℕ) : Type 0 where
   pub edgeless : s .edges ≡ 0
   pub room : s .tasks < 64
   pub some : 1 ≤ c
+  pub two-bytes : ((k : ℕ) → at bytes k < 256) → c ≤ 65535
   pub behind : next ≡ s .at + 5
   pub fits : next ≤ length bytes
 
@@ -99,6 +100,7 @@ module _ (bytes : List ℕ) (s : Seen) where
         edgeless = z;
         room = leb-false 64 (s .tasks) h;
         some = let n = eqb-false (two bytes (s .at + 3)) 0 k in omega arith;
+        two-bytes = λ b. omega (arith, b (s .at + 3), b (s .at + 3 + 1));
         behind = refl;
         fits = l;
       }))
@@ -220,17 +222,18 @@ snoc-each P l x h k i m =
     lt-or-ge i (length l) (λ o. rw (snoc-old l x i o) (h i o)) (λ o. rw (snoc-new l x i (omega (arith, snoc-length l x))) k)
 
 -- the plan so far, up to a place
-pub record Partly (place : ℕ) (p : Plan) : Type 0 where
+pub record Partly (bytes : List ℕ) (place : ℕ) (p : Plan) : Type 0 where
   pub fresh : ltb 0 (cores p) ≡ false → (place ≡ 0) × (tasks p ≡ 0) × (edges p ≡ 0)
   pub started : ltb 0 (cores p) ≡ true → Settings (p .bus) × (place ≡ 6 + 5 * tasks p + 7 * edges p)
-  pub columns : Columns p
+  pub ranges : Ranges p
+  pub costs-most : ((k : ℕ) → at bytes k < 256) → (i : ℕ) → cost p i ≤ 65535
 
-pub partly-none : Partly 0 noPlan
-partly-none =
+pub partly-none : (bytes : List ℕ) → Partly bytes 0 noPlan
+partly-none bytes =
     record {
       fresh = λ _. (refl, refl, refl);
       started = λ e. conflict e refl;
-      columns =
+      ranges =
           record {
             few-tasks = omega arith;
             few-edges = omega arith;
@@ -242,48 +245,51 @@ partly-none =
             amounts-most = λ e. omega arith;
             rising = λ e h. absurd (omega arith);
           };
+      costs-most = λ _ i. omega arith;
     }
 
-module _ (bytes : List ℕ) (place : ℕ) (p : Plan) (w : Partly place p) where
-  pub partly-header : (b : Bus) (next : ℕ) → HeaderTaken bytes (seen place p) b next → Partly next (withBus p b)
+module _ (bytes : List ℕ) (place : ℕ) (p : Plan) (w : Partly bytes place p) where
+  pub partly-header : (b : Bus) (next : ℕ) → HeaderTaken bytes (seen place p) b next → Partly bytes next (withBus p b)
   partly-header b next h =
       let f = w .fresh (h .fresh) in
       record {
         fresh = λ z. absurd (omega (arith, ltb-false 0 (b .cores) z, h .settings .cores-some));
         started = λ _. (h .settings, omega (arith, f .0, f .1, f .2, h .behind));
-        columns =
+        ranges =
             record {
-              few-tasks = w .columns .few-tasks;
-              few-edges = w .columns .few-edges;
-              costs-some = w .columns .costs-some;
-              targets-all = w .columns .targets-all;
-              amounts-all = w .columns .amounts-all;
-              sources-known = w .columns .sources-known;
-              targets-known = w .columns .targets-known;
-              amounts-most = w .columns .amounts-most;
-              rising = w .columns .rising;
+              few-tasks = w .ranges .few-tasks;
+              few-edges = w .ranges .few-edges;
+              costs-some = w .ranges .costs-some;
+              targets-all = w .ranges .targets-all;
+              amounts-all = w .ranges .amounts-all;
+              sources-known = w .ranges .sources-known;
+              targets-known = w .ranges .targets-known;
+              amounts-most = w .ranges .amounts-most;
+              rising = w .ranges .rising;
             };
+        costs-most = w .costs-most;
       }
 
-  pub partly-task : (c next : ℕ) → TaskTaken bytes (seen place p) c next → Partly next (withTask p c)
+  pub partly-task : (c next : ℕ) → TaskTaken bytes (seen place p) c next → Partly bytes next (withTask p c)
   partly-task c next h =
       let long : length (p .costs ++ (c ∷ [])) ≡ tasks p + 1 = snoc-length (p .costs) c in
       let z : edges p ≡ 0 = h .edgeless in
       record {
         fresh = λ e. conflict (h .started) e;
         started = λ e. (w .started (h .started) .0, omega (arith, w .started (h .started) .1, h .behind));
-        columns =
+        ranges =
             record {
               few-tasks = omega (arith, h .room);
-              few-edges = w .columns .few-edges;
-              costs-some = snoc-each (λ (x : ℕ). 1 ≤ x) (p .costs) c (w .columns .costs-some) (h .some);
-              targets-all = w .columns .targets-all;
-              amounts-all = w .columns .amounts-all;
+              few-edges = w .ranges .few-edges;
+              costs-some = snoc-each (λ (x : ℕ). 1 ≤ x) (p .costs) c (w .ranges .costs-some) (h .some);
+              targets-all = w .ranges .targets-all;
+              amounts-all = w .ranges .amounts-all;
               sources-known = λ e k. absurd (omega arith);
               targets-known = λ e k. absurd (omega arith);
-              amounts-most = w .columns .amounts-most;
+              amounts-most = w .ranges .amounts-most;
               rising = λ e k. absurd (omega arith);
             };
+        costs-most = λ b. snoc-most (p .costs) c 65535 (w .costs-most b) (h .two-bytes b);
       }
 
   -- the last edge's key is below the least that is left
@@ -295,14 +301,14 @@ module _ (bytes : List ℕ) (place : ℕ) (p : Plan) (w : Partly place p) where
       (λ t. absurd (omega (arith, eqb-true (edges p) 0 t)))
       (λ t. rw (t, n) (omega arith))
 
-  pub partly-edge : (from to words next : ℕ) → EdgeTaken bytes (seen place p) from to words next → Partly next (withEdge p from to words)
+  pub partly-edge : (from to words next : ℕ) → EdgeTaken bytes (seen place p) from to words next → Partly bytes next (withEdge p from to words)
   partly-edge from to words next h =
       let long : length (p .sources ++ (from ∷ [])) ≡ edges p + 1 = snoc-length (p .sources) from in
-      let v = w .columns in
+      let v = w .ranges in
       record {
         fresh = λ e. conflict (h .started) e;
         started = λ e. (w .started (h .started) .0, omega (arith, w .started (h .started) .1, h .behind));
-        columns =
+        ranges =
             record {
               few-tasks = v .few-tasks;
               few-edges = omega (arith, h .room);
@@ -328,19 +334,21 @@ module _ (bytes : List ℕ) (place : ℕ) (p : Plan) (w : Partly place p) where
                   rw (snoc-new (p .sources) from (e + 1) q, snoc-new (p .targets) to (e + 1) (omega (arith, v .targets-all)))
                   (omega (arith, least-last e q, h .rises))));
             };
+        costs-most = w .costs-most;
       }
 
 -- a plan that was read to its end
 pub record Read (bytes : List ℕ) (p : Plan) : Type 0 where
   pub valid : Valid p
   pub sized : length bytes ≡ 6 + 5 * tasks p + 7 * edges p
+  pub costs-most : ((k : ℕ) → at bytes k < 256) → (i : ℕ) → cost p i ≤ 65535
 
 -- what a reading comes to, if it was good
 abbrev Ends : List ℕ → Reading → Type 0
 Ends bytes r = r .check ≡ Good → Read bytes (r .plan)
 
-on-ends : (bytes : List ℕ) (place : ℕ) (p : Plan) → Partly place p → place ≤ length bytes → (go : ℕ → Plan → Reading)
-    → ((next : ℕ) (q : Plan) → place < next → next ≤ length bytes → Partly next q → Ends bytes (go next q))
+on-ends : (bytes : List ℕ) (place : ℕ) (p : Plan) → Partly bytes place p → place ≤ length bytes → (go : ℕ → Plan → Reading)
+    → ((next : ℕ) (q : Plan) → place < next → next ≤ length bytes → Partly bytes next q → Ends bytes (go next q))
     → (x : Taken) → Took bytes (seen place p) x → Ends bytes (onWith p x go)
 on-ends bytes place p w l go h (Header b next) t = h next (withBus p b) (omega (arith, t .behind)) (t .fits) (partly-header bytes place p w b next t)
 on-ends bytes place p w l go h (Task c next) t = h next (withTask p c) (omega (arith, t .behind)) (t .fits) (partly-task bytes place p w c next t)
@@ -348,11 +356,11 @@ on-ends bytes place p w l go h (Edge from to words next) t = h next (withEdge p 
 on-ends bytes place p w l go h Complete t =
     λ _.
     let s = w .started (t .started) in
-    record { valid = record { settings = s .0; columns = w .columns }; sized = omega (arith, s .1, t .over, l) }
+    record { valid = record { settings = s .0; ranges = w .ranges }; sized = omega (arith, s .1, t .over, l); costs-most = w .costs-most }
 on-ends bytes place p w l go h (Refused r) t = λ e. good-bad (sym e)
 
 module _ (bytes : List ℕ) where
-  from-ends : (k place : ℕ) (p : Plan) → place ≤ length bytes → length bytes < k + place → Partly place p → Ends bytes (fieldsFrom k bytes place p)
+  from-ends : (k place : ℕ) (p : Plan) → place ≤ length bytes → length bytes < k + place → Partly bytes place p → Ends bytes (fieldsFrom k bytes place p)
   unfolding fieldsFrom
   from-ends zero place p l a w = absurd (omega arith)
   from-ends (suc k) place p l a w =
@@ -362,4 +370,4 @@ module _ (bytes : List ℕ) where
 
   pub plan-valid : readingOf bytes .check ≡ Good → Read bytes (readingOf bytes .plan)
   unfolding readingOf readingFrom
-  plan-valid = from-ends (suc (length bytes)) 0 noPlan (omega arith) (omega arith) partly-none
+  plan-valid = from-ends (suc (length bytes)) 0 noPlan (omega arith) (omega arith) (partly-none bytes)

@@ -1,4 +1,4 @@
--- The rules as facts and as checks say the same: no check refuses exactly where `Good` holds. Assumes nothing.
+-- The rules as facts and as checks say the same: no check refuses exactly where `GoodTable` holds. Assumes nothing.
 use mathlib.Core.Path.{_≡_, refl, sym, ap, _∙_}
 use mathlib.Core.Bool.{Bool, true, false, _&&_}
 use Prim.Native.Nat.{ℕ, _+_, _*_, _/_, _≤_, _<_, min, max}
@@ -11,8 +11,7 @@ use Rattle.model.specs.Refusals.{refusal, refuseIf, orElse, firstBad}
 use Rattle.model.specs.Plan.{Plan, tasks, edges, cost, source, target}
 use Rattle.model.specs.Table.{Table}
 use Rattle.model.specs.Contention.{Phases, phasesOf}
-use Rattle.model.specs.Rules as rules
-use Rattle.model.specs.Rules.{delayAt, executeAt, edgeAt, crossing, crossAt, crossFrom, windowAt, broken, makespan}
+use Rattle.model.specs.Rules.{GoodTable, delayAt, executeAt, edgeAt, crossing, crossAt, crossFrom, windowAt, rulesCheck, makespan}
 use Rattle.model.specs.declared.Bus.{Bus}
 use Rattle.model.specs.declared.Fault.the-variants.{ExecuteShort, ReadEarly, SpansCross, WindowShort}
 use Rattle.model.specs.declared.Side.the-variants.{OfTable}
@@ -82,8 +81,8 @@ module _ (b : Bus) (h : Phases) where
 
 -- ---- all of them
 module _ (p : Plan) (t : Table) where
-  pub good-of : broken p t ≡ Good → rules.Good p t
-  unfolding broken
+  pub good-of : rulesCheck p t ≡ Good → GoodTable p t
+  unfolding rulesCheck
   good-of e =
       let b12 = or-good (firstBad (executeAt p t) (tasks p)) _ e in
       let b13 = or-good (firstBad (edgeAt p t) (edges p)) _ (b12 .1) in
@@ -102,8 +101,8 @@ module _ (p : Plan) (t : Table) where
             (first-each (windowAt (p .bus) (phasesOf p t)) (2 * tasks p) (b14 .1) x l);
       }
 
-  pub good-passes : rules.Good p t → broken p t ≡ Good
-  unfolding broken
+  pub good-passes : GoodTable p t → rulesCheck p t ≡ Good
+  unfolding rulesCheck
   good-passes g =
       rw (
         first-all (executeAt p t) (tasks p) (λ i l. executes-good p t i (g .executes i l)),

@@ -12,8 +12,8 @@ use Rattle.model.specs.Plan.{Plan, tasks, cores}
 use Rattle.model.specs.Graph.{planOf}
 use Rattle.model.specs.Table.{bytes, ofNumbers, tableOf, valuesCheck}
 use Rattle.model.specs.Contention.{phaseWords, phasesOf}
-use Rattle.model.specs.Rules.{broken, makespan}
-use Rattle.model.specs.ListRule.{madeBytes, madeSpan}
+use Rattle.model.specs.Rules.{rulesCheck, makespan}
+use Rattle.model.specs.ListRule.{madeBytes, madeMakespan}
 use Rattle.model.specs.BusRule.{answers}
 use Rattle.model.specs.declared.Fault.the-variants.{OutputShort, ServedUnknown, WordsWrong}
 use Rattle.model.specs.declared.Side.{Side}
@@ -85,7 +85,7 @@ pub record Judged : Type 0 where
 unfoldable pub judged : List ℕ → List ℕ → Outcome Judged
 judged p s =
     andThen (planOf p)
-    (λ plan. andThen (tableOf plan s) (λ v. passing (broken plan (ofNumbers v)) (record { plan = plan; table = v })))
+    (λ plan. andThen (tableOf plan s) (λ v. passing (rulesCheck plan (ofNumbers v)) (record { plan = plan; table = v })))
 
 abbrev pub verdictBy : Outcome Judged → Verdict
 verdictBy (gives j) = Verdict.Accepted (record { 0 = makespan (tasks (j .plan)) (ofNumbers (j .table)) })
@@ -100,7 +100,7 @@ unfoldable pub making : List ℕ → List ℕ → Outcome Plan
 making p out = andThen (planOf p) (λ plan. passing (room (20 * tasks plan) out) plan)
 
 abbrev pub madeBy : Outcome Plan → Made
-madeBy (gives plan) = Made.Scheduled (record { 0 = madeSpan plan })
+madeBy (gives plan) = Made.Scheduled (record { 0 = madeMakespan plan })
 madeBy (refuses r) = Made.Refused r
 
 unfoldable pub madeOf : List ℕ → List ℕ → Made
@@ -152,8 +152,8 @@ servedCheck j served = refuseIf (leb (cores (j .plan)) served) (refusal ServedUn
 unfoldable pub wordsCheck : Judged → List ℕ → Check
 wordsCheck j words =
     let n = 2 * tasks (j .plan) in
-    let asked = declared j in
-    let bad = firstBelow (λ x. ltb (at asked x) (at words x)) n in
+    let most = declared j in
+    let bad = firstBelow (λ x. ltb (at most x) (at words x)) n in
     orElse (refuseIf (not (eqb (length words) n)) (refusal WordsWrong OfNeither (length words)))
     (refuseIf (ltb bad n) (refusal WordsWrong OfNeither bad))
 

@@ -1,7 +1,8 @@
 -- The few combinators that the definitions are made of: a family f over the numbers below n, joined in their order,
 -- ((u op f 0) op f 1) .. op f (n - 1). Sums, counts, the greatest, all, any and lists are that at an operator.
 -- Laws: proofs/Below.antt. Assumes nothing.
-use Prim.Native.Nat.{ℕ, zero, suc, _+_, min, max}
+use mathlib.Core.Path.{_≡_}
+use Prim.Native.Nat.{ℕ, zero, suc, _+_, _≤_, _<_, min, max}
 use mathlib.Core.Bool.{Bool, true, false, cond, _&&_, _||_}
 use mathlib.Core.List.{List, [], _∷_, _++_}
 use lib.ListN.{getD}
@@ -48,6 +49,18 @@ firstBelow p (suc n) = let i = firstBelow p n in cond (ltb i n) i (cond (p n) n 
 unfoldable pub bestBelow : (ℕ → ℕ) → ℕ → ℕ
 bestBelow f zero = 0
 bestBelow f (suc n) = let i = bestBelow f n in cond (ltb (f n) (f i)) n i
+
+-- what these two are (proofs/Below.antt, `first` and `best`): p passes there, if below n, and nowhere before; f is nowhere
+-- less, and more before it
+pub record First (p : ℕ → Bool) (n i : ℕ) : Type 0 where
+  pub within : i ≤ n
+  pub here : i < n → p i ≡ true
+  pub before : (k : ℕ) → k < i → p k ≡ false
+
+pub record Best (f : ℕ → ℕ) (n b : ℕ) : Type 0 where
+  pub least : (i : ℕ) → i < n → f b ≤ f i
+  pub first : (i : ℕ) → i < b → f b < f i
+  pub within : 0 < n → b < n
 
 -- the least of d and of those f i, i below n, at which p passes
 abbrev pub leastBelow : (ℕ → ℕ) → (ℕ → Bool) → ℕ → ℕ → ℕ

@@ -59,10 +59,11 @@ module _ (b : Bus) (h : Phases) (u : Use) where
   unfoldable pub coreAfter : List Grant → ℕ → ℕ
   coreAfter l i = let c = lastServed l + 1 + i in cond (ltb c (b .cores)) c (c - b .cores)
 
-  -- when the next choice is made: as soon as the bus is free and a phase with words left has started
+  -- the first start of a phase with words left; without one it is not asked for
   unfoldable pub soonest : List Grant → ℕ
   soonest l = leastBelow (h .start) (pending l) (h .count) (h .start (firstBelow (pending l) (h .count)))
 
+  -- when the next choice is made: as soon as the bus is free and a phase with words left has started
   unfoldable pub choiceTime : List Grant → ℕ
   choiceTime l = max (freeAt b l) (soonest l)
 
@@ -80,23 +81,24 @@ module _ (b : Bus) (h : Phases) (u : Use) where
       record { phase = x; begin = time; size = min (D b) (u .actual x - sent l x) }
 
   -- one grant more, if a phase has words left
-  unfoldable pub step : List Grant → List Grant
-  step l = cond (anyBelow (pending l) (h .count)) (grantAt l (choiceTime l) ∷ l) l
+  unfoldable pub grantNext : List Grant → List Grant
+  grantNext l = cond (anyBelow (pending l) (h .count)) (grantAt l (choiceTime l) ∷ l) l
 
   unfoldable pub play : ℕ → List Grant
   play zero = []
-  play (suc k) = step (play k)
+  play (suc k) = grantNext (play k)
 
-  -- the run: each grant carries a word, so as many grants as words are enough (proofs/BusRule.antt: `step run ≡ run`)
+  -- the run: each grant carries a word, so as many grants as words are enough (proofs/BusRule.antt: `grantNext run ≡ run`)
   unfoldable pub run : List Grant
   run = play (sumBelow (u .actual) (h .count))
 
-  -- ---- the same rule as facts: what makes g the next grant after a log
+  -- ---- the same rule as facts: what makes g the next grant after a log. Of two phases of one core that ask at a time the rule
+  -- says nothing, and `phaseServed` takes the lower; on an accepted table there are no two (crate guarantee, `alone`).
   -- cores to pass from one to the other, going round: 0 to the next one, cores − 1 to itself
   unfoldable pub away : ℕ → ℕ → ℕ
   away c d = cond (ltb c d) (d - c - 1) (d + b .cores - c - 1)
 
-  pub record Chosen (l : List Grant) (g : Grant) : Type 0 where
+  pub record NextGrant (l : List Grant) (g : Grant) : Type 0 where
     pub known : g .phase < h .count
     pub left : sent l (g .phase) < u .actual (g .phase)
     pub asked : h .start (g .phase) ≤ g .begin
@@ -112,15 +114,16 @@ module _ (b : Bus) (h : Phases) (u : Use) where
   -- a log that the rule makes
   pub data Log : List Grant → Type 0 where
     idle : Log []
-    grant : {l : List Grant} {g : Grant} → Log l → Chosen l g → Log (g ∷ l)
+    grant : {l : List Grant} {g : Grant} → Log l → NextGrant l g → Log (g ∷ l)
 
   -- ---- the answers
-  -- a phase's end: that of its last grant; "a phase with no actual words ends at its start"
+  -- a phase's end: that of its last grant; "A phase with no actual words ends at its start with 0 waits."
   unfoldable pub finish : List Grant → ℕ → ℕ
   finish [] x = h .start x
   finish (g ∷ l) x = cond (eqb (g .phase) x) (ends b g) (finish l x)
 
-  -- the grants to other cores that begin before a time and end after the phase's start
+  -- the grants to other cores that begin before a time and end after the phase's start; "one that ends just at its start is no
+  -- wait"
   unfoldable pub waitsBefore : ℕ → List Grant → ℕ → ℕ
   waitsBefore time [] x = 0
   waitsBefore time (g ∷ l) x =
@@ -143,3 +146,10 @@ module _ (b : Bus) (h : Phases) (u : Use) where
   unfoldable pub busy : List Grant → ℕ
   busy [] = 0
   busy (g ∷ l) = busy l + held b (g .size)
+
+  -- a whole run, as facts (proofs/BusRule.antt, `run-whole`)
+  pub record Whole (l : List Grant) : Type 0 where
+    pub log : Log l
+    pub done : (x : ℕ) → x < h .count → sent l x ≡ u .actual x
+    pub words : granted l ≡ sumBelow (u .actual) (h .count)
+    pub time : busy l ≡ wordTime b * sumBelow (u .actual) (h .count)

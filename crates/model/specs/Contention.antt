@@ -1,5 +1,6 @@
 -- Who carries words, who overlaps whom, and how many rivals a phase has. Document 01, "Rules of a good table"; document
--- 001, equations 15a and 15b (words), 3 and 12 (overlap), 4a, 4b and section 4.1 (rivals).
+-- 001, equations 15a and 15b (words), 3 and 12 (overlap), 4a, 4b and section 4.1 (rivals, 001's #interf). 001 sums over the
+-- tasks that may run at the same time; one that must come before or after a task does not overlap it once its rule 13 holds.
 -- Laws: proofs/Contention.antt. Assumes nothing.
 use Prim.Native.Nat.{ℕ, _*_, _-_, _/_, _%_, _<_, min}
 use mathlib.Core.List.{List}
@@ -67,6 +68,6 @@ overlap h x y = (ltb 0 (h .words x) && ltb 0 (h .words y)) && (ltb (h .start x) 
 unfoldable pub rival : Phases → ℕ → ℕ → Bool
 rival h x y = not (eqb (h .core x) (h .core y)) && overlap h x y
 
--- "A phase's rivals: the number of [those], at most cores − 1" (4a, 4b, section 4.1)
+-- "A phase's rivals: the number of phases of tasks on other cores that overlap it, at most cores − 1" (4a, 4b, section 4.1)
 unfoldable pub rivals : Bus → Phases → ℕ → ℕ
 rivals b h x = min (countBelow (rival h x) (h .count)) (b .cores - 1)

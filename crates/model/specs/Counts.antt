@@ -1,5 +1,6 @@
--- "Words, time units and slots are three counts." Document 01, "Three counts"; document 001, equations 1 and 5, and 16a
--- to 16d, which decide: 17 and 18 divide words by the slot's time and are not used. In 001's figure 2, D is 3.
+-- "Words, time units and slots are three counts, and the code must not let one stand for another." Document 01, "Three
+-- counts"; document 001, equations 1 and 5, and 16a to 16d, which decide: 17 and 18 divide words by the slot's time and are not
+-- used. "The example of 001, figure 2, says T = 3, D = 1, but its numbers 4, 8 and 10 fit D = 3."
 -- Laws: proofs/Counts.antt. Assumes nothing.
 use mathlib.Core.Path.{_≡_}
 use Prim.Native.Nat.{ℕ, _+_, _*_, _-_, _/_, _%_, _≤_}
@@ -15,7 +16,7 @@ D b = b .d .0
 unfoldable pub wordTime : Bus → ℕ
 wordTime b = T b / D b
 
--- "slots = w/D rounded up; full = w/D rounded down" (16a, 16c)
+-- "slots = w/D rounded up; full = w/D rounded down" (001's #waitingSlots, 1c and 16c, and #chunks, 1a and 16a)
 unfoldable pub slots : Bus → ℕ → ℕ
 slots b w = (w + (D b - 1)) / D b
 
@@ -25,6 +26,10 @@ full b w = w / D b
 -- "delay = T·slots·k + T·full + (w mod D)·(T/D)", for w words and k counted rivals (1, 5, 16b, 16d)
 unfoldable pub delay : Bus → ℕ → ℕ → ℕ
 delay b w k = T b * slots b w * k + T b * full b w + w % D b * (T b / D b)
+
+-- no phase has more words: 256 edges of 4,095
+abbrev pub mostWords : ℕ
+mostWords = 1048320
 
 -- the settings that tag 1 takes: "cores 1..8, T 1..64, D 1..64, D divides T"
 pub record Settings (b : Bus) : Type 0 where

@@ -33,8 +33,8 @@ bodyOf OfPlan tag = planBody tag
 bodyOf OfTable tag = tableBody tag
 bodyOf OfNeither tag = 0
 
--- "At or past the end it says that none is left. A step makes only the checks header cut, tag known .., length and body
--- cut, in that order": 1, 2, 3, 1, each at the field's offset, in the bytes of a side
+-- "at or past the end it says that none is left. A step makes only the checks header cut, tag known in a plan, length and
+-- body cut, in that order": 1, 2, 3, 1, each at the field's offset, in the bytes of a side
 unfoldable pub stepIn : Side → List ℕ → ℕ → Step
 stepIn side s place =
     let body = bodyOf side (at s place) in

@@ -1,25 +1,26 @@
--- "Some task reaches itself in the transitive closure of the edges (001, section 4.1; a self edge is enough)": refusal 7,
+-- "some task reaches itself in the transitive closure of the edges (001, section 4.1; a self edge is enough)": refusal 7,
 -- at the plan's length. "List order: repeatedly take the lowest-numbered task whose sources are all taken."
 -- Document 01, "Refusal numbers" and "The list rule". Laws: proofs/Graph.antt. Assumes nothing.
-use Prim.Native.Nat.{ℕ, zero, suc, _<_}
+use mathlib.Core.Path.{_≡_}
+use Prim.Native.Nat.{ℕ, zero, suc, _+_, _<_}
 use mathlib.Core.List.{List, [], _∷_, _++_}
 use mathlib.Core.Bool.{Bool, true, cond, not, _&&_}
 use lib.ListN.{length}
 use lib.Dec.{ltb, eqb}
-use Rattle.model.specs.Below.{at, firstBelow, allBelow}
+use Rattle.model.specs.Below.{at, countBelow, firstBelow, allBelow}
 use Rattle.model.specs.Refusals.{refusal, refuseIf, orElse, Outcome, passing}
 use Rattle.model.specs.Plan.{Plan, tasks, edges, source, target, readingOf}
 use Rattle.model.specs.declared.Fault.the-variants.{Cyclic}
 use Rattle.model.specs.declared.Side.the-variants.{OfPlan}
 
 -- the transitive closure of the edges
-pub data Path (p : Plan) : ℕ → ℕ → Type 0 where
-  edge : (e : ℕ) → e < edges p → Path p (source p e) (target p e)
-  then : {a b c : ℕ} → Path p a b → Path p b c → Path p a c
+pub data Reaches (p : Plan) : ℕ → ℕ → Type 0 where
+  edge : (e : ℕ) → e < edges p → Reaches p (source p e) (target p e)
+  then : {a b c : ℕ} → Reaches p a b → Reaches p b c → Reaches p a c
 
 -- some task reaches itself
 abbrev pub Cycle : Plan → Type 0
-Cycle p = (a : ℕ) × Path p a a
+Cycle p = (a : ℕ) × Reaches p a a
 
 -- the place of task i in a list, the list's length if it is not there
 unfoldable pub placeOf : List ℕ → ℕ → ℕ
@@ -36,6 +37,16 @@ ready p o i = not (taken o i) && allBelow (λ e. cond (eqb (target p e) i) (take
 unfoldable pub nextTask : Plan → List ℕ → ℕ
 nextTask p o = firstBelow (ready p o) (tasks p)
 
+-- what a list so taken fulfils (proofs/Graph.antt, `listing`)
+pub record Listing (p : Plan) (o : List ℕ) : Type 0 where
+  -- each entry is a task, and stands there once
+  pub known : (a : ℕ) → a < length o → at o a < tasks p
+  pub once : (a : ℕ) → a < length o → placeOf o (at o a) ≡ a
+  -- sources come before targets
+  pub rises : (e : ℕ) → e < edges p → taken o (target p e) ≡ true → placeOf o (source p e) < placeOf o (target p e)
+  -- the others are left
+  pub left : countBelow (λ i. not (taken o i)) (tasks p) + length o ≡ tasks p
+
 -- one task more, if one is ready
 unfoldable pub takeNext : Plan → List ℕ → List ℕ
 takeNext p o = cond (ltb (nextTask p o) (tasks p)) (o ++ (nextTask p o ∷ [])) o
@@ -48,7 +59,7 @@ listed p (suc k) = takeNext p (listed p k)
 unfoldable pub listOrder : Plan → List ℕ
 listOrder p = listed p (tasks p)
 
--- a task is left over: the test of refusal 7 (proofs/Graph.antt: exactly where there is a `Cycle`)
+-- a task is left over: the test of refusal 7 (proofs/Graph.antt, `some-cycle` and `no-cycle`: exactly where there is a `Cycle`)
 unfoldable pub leftOver : Plan → Bool
 leftOver p = ltb (length (listOrder p)) (tasks p)
 

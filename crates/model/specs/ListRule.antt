@@ -2,7 +2,8 @@
 -- place": place a holds task `at (listOrder p) a`. A choice is 2 · core + mode, mode 0 overlapping and 1 exclusive, so that
 -- choices in rising order are in the order in which ties are decided.
 -- Laws: proofs/ListRule.antt. Assumes nothing.
-use Prim.Native.Nat.{ℕ, zero, suc, _+_, _*_, _-_, _/_, _%_, max}
+use mathlib.Core.Path.{_≡_}
+use Prim.Native.Nat.{ℕ, zero, suc, _+_, _*_, _-_, _/_, _%_, _≤_, _<_, max}
 use mathlib.Core.List.{List, [], _∷_, _++_}
 use mathlib.Core.Bool.{Bool, true, false, cond, not, _&&_, _||_}
 use lib.ListN.{length, take}
@@ -91,8 +92,14 @@ clashes c lengths starts a r =
 unfoldable pub leastFree : (ℕ → Bool) → ℕ → ℕ → ℕ
 leastFree clash from top = from + firstBelow (λ d. not (clash (from + d))) (top - from)
 
--- "the earliest R ..; in exclusive mode R is the least such time at which neither of its phases overlaps" one: at the
--- greatest F so far nothing clashes any more
+-- what that is, where nothing clashes from `top` on: the least time without a clash
+pub record LeastFree (clash : ℕ → Bool) (from r : ℕ) : Type 0 where
+  pub later : from ≤ r
+  pub clear : clash r ≡ false
+  pub least : (s : ℕ) → from ≤ s → s < r → clash s ≡ true
+
+-- "each task starts at the earliest R that is not before ..": overlapping. "In exclusive mode R is the least such time at
+-- which neither of its phases overlaps" one; at the greatest F so far nothing clashes any more
 unfoldable pub startOf : Candidate → List ℕ → List ℕ → ℕ → ℕ
 startOf c lengths starts a =
     let from = earliest c lengths starts a in
@@ -128,16 +135,17 @@ settled c = rounds c (2 * tasks (c .plan) * (cores (c .plan) - 1))
 unfoldable pub finished : Candidate → Table
 finished c = placed c (settled c)
 
-unfoldable pub spanOf : Candidate → ℕ
-spanOf c = makespan (tasks (c .plan)) (finished c)
+unfoldable pub makespanOf : Candidate → ℕ
+makespanOf c = makespan (tasks (c .plan)) (finished c)
 
--- ---- "Tasks are added in that order. For each one, every core is tried in two modes .., with the earlier tasks' cores and
--- modes kept. The least makespan .. wins; ties go to the lower core, then to overlapping."
+-- ---- "Tasks are added in that order. For each one, every core is tried in two modes, overlapping and exclusive, with the
+-- earlier tasks' cores and modes kept." "The least makespan (greatest F, or 0 with no tasks) wins; ties go to the lower core,
+-- then to overlapping."
 unfoldable pub chosen : Plan → ℕ → List ℕ
 chosen q zero = []
 chosen q (suc k) =
     let kept = chosen q k in
-    kept ++ (bestBelow (λ choice. spanOf (candidate q (kept ++ (choice ∷ [])))) (2 * cores q) ∷ [])
+    kept ++ (bestBelow (λ choice. makespanOf (candidate q (kept ++ (choice ∷ [])))) (2 * cores q) ∷ [])
 
 unfoldable pub winner : Plan → Candidate
 winner q = candidate q (chosen q (tasks q))
@@ -159,5 +167,5 @@ made p =
 unfoldable pub madeBytes : Plan → List ℕ
 madeBytes p = let t = made p in bytes t (tasks p)
 
-unfoldable pub madeSpan : Plan → ℕ
-madeSpan p = let t = made p in makespan (tasks p) t
+unfoldable pub madeMakespan : Plan → ℕ
+madeMakespan p = let t = made p in makespan (tasks p) t

@@ -58,7 +58,7 @@ abbrev pub keyOf : ℕ → ℕ → ℕ
 keyOf from to = 256 * from + to
 
 -- what holds of a plan that bytes are, apart from cycles (proofs/Plan.antt, `plan-valid`)
-pub record Columns (p : Plan) : Type 0 where
+pub record Ranges (p : Plan) : Type 0 where
   pub few-tasks : tasks p ≤ 64
   pub few-edges : edges p ≤ 256
   pub costs-some : (i : ℕ) → i < tasks p → 1 ≤ cost p i
@@ -71,7 +71,7 @@ pub record Columns (p : Plan) : Type 0 where
 
 pub record Valid (p : Plan) : Type 0 where
   pub settings : Settings (p .bus)
-  pub columns : Columns p
+  pub ranges : Ranges p
 
 -- ---- one field
 abbrev broken : Fault → ℕ → Taken

@@ -7,6 +7,7 @@ use Rattle.model.specs.Below.{joinBelow}
 use Rattle.model.specs.declared.Fault.{Fault}
 use Rattle.model.specs.declared.Fault.the-variants.{FieldCut, TagUnknown, LengthWrong, ValueOutOfRange, EdgesNotRising, TooMany, Cyclic, OutputShort, FieldCount, CoreUnknown, MarksFalling, ExecuteShort, ReadEarly, SpansCross, WindowShort, ServedUnknown, WordsWrong}
 use Rattle.model.specs.declared.Side.{Side}
+use Rattle.model.specs.declared.Side.the-variants.{OfNeither, OfPlan, OfTable}
 use Rattle.model.specs.declared.Refusal.{Refusal}
 use Rattle.model.specs.declared.Check.{Check}
 use Rattle.model.specs.declared.Check.the-variants.{Good, Bad}
@@ -30,8 +31,29 @@ numberOf WindowShort = 15
 numberOf ServedUnknown = 16
 numberOf WordsWrong = 17
 
+-- "The side is plan for 5 to 7, table for 9 to 15, neither for 8, 16 and 17; for 1 to 4 it is the input being read."
+abbrev pub sideOf : Fault → Side → Side
+sideOf FieldCut input = input
+sideOf TagUnknown input = input
+sideOf LengthWrong input = input
+sideOf ValueOutOfRange input = input
+sideOf EdgesNotRising input = OfPlan
+sideOf TooMany input = OfPlan
+sideOf Cyclic input = OfPlan
+sideOf OutputShort input = OfNeither
+sideOf FieldCount input = OfTable
+sideOf CoreUnknown input = OfTable
+sideOf MarksFalling input = OfTable
+sideOf ExecuteShort input = OfTable
+sideOf ReadEarly input = OfTable
+sideOf SpansCross input = OfTable
+sideOf WindowShort input = OfTable
+sideOf ServedUnknown input = OfNeither
+sideOf WordsWrong input = OfNeither
+
+-- a fault in an input, at a place
 abbrev pub refusal : Fault → Side → ℕ → Refusal
-refusal fault side place = record { fault = fault; side = side; place = place }
+refusal fault input place = record { fault = fault; side = sideOf fault input; place = place }
 
 -- a check that refuses where its test passes
 abbrev pub refuseIf : Bool → Refusal → Check

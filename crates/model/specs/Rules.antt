@@ -1,5 +1,5 @@
--- Document 01, "Rules of a good table", twice: as facts that hold of every task, edge, pair and phase (`Good`), and as
--- the first refusal in the order 12, 13, 14, 15 (`broken`).
+-- Document 01, "Rules of a good table", twice: as facts that hold of every task, edge, pair and phase (`GoodTable`), and as
+-- the first refusal in the order 12, 13, 14, 15 (`rulesCheck`).
 -- Laws: proofs/Rules.antt. Assumes nothing.
 use Prim.Native.Nat.{ℕ, _+_, _*_, _/_, _≤_, _<_, min, max}
 use mathlib.Core.Path.{_≡_}
@@ -20,16 +20,17 @@ use Rattle.model.specs.declared.Check.{Check}
 unfoldable pub delayAt : Bus → Phases → ℕ → ℕ
 delayAt b h x = delay b (h .words x) (rivals b h x)
 
-pub record Good (p : Plan) (t : Table) : Type 0 where
-  -- "Execute windows last at least C."
+-- for a table whose cores and marks are in range (refusals 10 and 11 of reading it)
+pub record GoodTable (p : Plan) (t : Table) : Type 0 where
+  -- "Execute windows last at least C." (001, 8b)
   pub executes : (i : ℕ) → i < tasks p → t .E i + cost p i ≤ t .W i
-  -- "Each edge's target has R no earlier than its source's F."
+  -- "Each edge's target has R no earlier than its source's F." (001, 11)
   pub follows : (e : ℕ) → e < edges p → t .F (source p e) ≤ t .R (target p e)
-  -- "Spans [R, F) on one core share no time."
+  -- "Spans [R, F) on one core share no time." (001, 9)
   pub apart :
       (i j : ℕ) → i < j → j < tasks p → t .core i ≡ t .core j
       → (x : ℕ) → t .R i ≤ x → x < t .F i → t .R j ≤ x → x < t .F j → ⊥
-  -- "Each read and write window lasts at least its delay."
+  -- "Each read and write window lasts at least its delay. Longer windows are allowed." (001, 8a and 6b)
   pub lasts :
       (x : ℕ) → x < 2 * tasks p
       → phasesOf p t .start x + delayAt (p .bus) (phasesOf p t) x ≤ phasesOf p t .end x
@@ -60,8 +61,8 @@ unfoldable pub windowAt : Bus → Phases → ℕ → Check
 windowAt b h x = refuseIf (ltb (h .end x) (h .start x + delayAt b h x)) (refusal WindowShort OfTable (20 * (x / 2)))
 
 -- "Then 12 (lowest task), 13 (first edge), 14 (pairs by lower task, then higher), 15 (lowest task, read before write)."
-unfoldable pub broken : Plan → Table → Check
-broken p t =
+unfoldable pub rulesCheck : Plan → Table → Check
+rulesCheck p t =
     orElse (firstBad (executeAt p t) (tasks p))
     (orElse (firstBad (edgeAt p t) (edges p))
     (orElse (firstBad (crossFrom p t) (tasks p))

@@ -47,17 +47,18 @@ ofBytes s =
       F = λ i. four s (20 * i + 16);
     }
 
--- the numbers of the first n tasks
+-- the numbers of a task, and of the first n tasks
 unfoldable pub numbersAt : Table → ℕ → List ℕ
 numbersAt t i = t .core i ∷ t .R i ∷ t .E i ∷ t .W i ∷ t .F i ∷ []
 
 abbrev pub numbers : Table → ℕ → List ℕ
 numbers t n = appendBelow (numbersAt t) n
 
--- the bytes of the first n tasks: tag 4, body length 17, core, four marks
+-- a number as four bytes, high byte first
 unfoldable pub fourBytes : ℕ → List ℕ
 fourBytes x = (x / 16777216) ∷ (x / 65536 % 256) ∷ (x / 256 % 256) ∷ (x % 256) ∷ []
 
+-- the bytes of a task: tag 4, body length 17, core, four marks; and of the first n tasks
 unfoldable pub bytesAt : Table → ℕ → List ℕ
 bytesAt t i =
     (4 ∷ 0 ∷ 17 ∷ t .core i ∷ [])
@@ -67,14 +68,14 @@ abbrev pub bytes : Table → ℕ → List ℕ
 bytes t n = appendBelow (bytesAt t) n
 
 -- ---- checks
--- 10 "core not below cores", then 11 "R, E, W, F not in non-falling order", of task i
-unfoldable pub rising : ℕ → ℕ → ℕ → ℕ → Bool
-rising r e w f = leb r e && leb e w && leb w f
+unfoldable pub nonFalling : ℕ → ℕ → ℕ → ℕ → Bool
+nonFalling r e w f = leb r e && leb e w && leb w f
 
+-- 10 "core not below cores", then 11 "R, E, W, F not in non-falling order", of task i
 unfoldable pub valuesAt : Plan → Table → ℕ → Check
 valuesAt p t i =
     orElse (refuseIf (leb (cores p) (t .core i)) (refusal CoreUnknown OfTable (20 * i)))
-    (refuseIf (not (rising (t .R i) (t .E i) (t .W i) (t .F i))) (refusal MarksFalling OfTable (20 * i)))
+    (refuseIf (not (nonFalling (t .R i) (t .E i) (t .W i) (t .F i))) (refusal MarksFalling OfTable (20 * i)))
 
 -- "fields in order, 9 if none remains for a task; header cut, tag, length, body cut, 10, 11"
 abbrev pub rowBy : Plan → List ℕ → ℕ → Step → Check

@@ -1,7 +1,7 @@
 // The value types of document 01, its refusal numbers, and the delay rule.
 ghost use mathlib.Core.Path.{_≡_};
 ghost use Prim.Native.Nat.{_≤_};
-ghost use Rattle.model.specs.Counts.{slots, full, Settings};
+ghost use Rattle.model.specs.Counts.{slots, full, mostWords, Settings};
 ghost use Rattle.model.specs.Counts.{delay as delayOf};
 ghost use Rattle.model.specs.Refusals.{numberOf};
 
@@ -153,7 +153,7 @@ pub fn number_of(fault: Fault) -> u32
 
 // Slots that `words` take: words / D rounded up.
 pub fn slots_of(bus: Bus, words: Words) -> Slots
-    requires { ⌜ Settings bus × (words .0 ≤ 1048320) ⌝ }
+    requires { ⌜ Settings bus × (words .0 ≤ mostWords) ⌝ }
     ensures { λ r. ⌜ r .0 ≡ slots bus (words .0) ⌝ }
 {
     let d = bus.d.0;
@@ -171,7 +171,7 @@ pub fn full_of(bus: Bus, words: Words) -> Slots
 
 // The delay of a phase with `words` and `rivals` counted rivals: the one place where words and slots become time.
 pub fn delay(bus: Bus, words: Words, rivals: u32) -> Time
-    requires { ⌜ Settings bus × (words .0 ≤ 1048320) × (rivals ≤ 7) ⌝ }
+    requires { ⌜ Settings bus × (words .0 ≤ mostWords) × (rivals ≤ 7) ⌝ }
     ensures { λ r. ⌜ r .0 ≡ delayOf bus (words .0) rivals ⌝ }
 {
     let slots = slots_of(bus, words);

@@ -76,7 +76,7 @@ pub record From (bytes costs₀ sources₀ targets₀ amounts₀ costs sources t
   pub sofar : Plan
   pub bus : b ≡ sofar .bus
   pub seen : s ≡ seenOf (s .at) sofar
-  pub partly : Partly (s .at) sofar
+  pub partly : Partly bytes (s .at) sofar
   pub within : s .at ≤ length bytes
   pub same : readingFrom bytes (s .at) sofar ≡ readingOf bytes
   pub with-costs : costs ≡ filled (sofar .costs) costs₀
@@ -91,7 +91,7 @@ from-start bytes c s t a =
       sofar = noPlan;
       bus = refl;
       seen = refl;
-      partly = partly-none;
+      partly = partly-none bytes;
       within = omega arith;
       same = refl;
       with-costs = filled-none c;
@@ -160,7 +160,7 @@ module _ (bytes c₀ s₀ t₀ a₀ c s t a : List ℕ) (b : Bus) (k : Seen) (f 
       → From bytes c₀ s₀ t₀ a₀ c (set s (k .edges) from) (set t (k .edges) to) (set a (k .edges) words) b (afterEdge k from to next)
   from-edge {from} {to} {words} {next} e =
       let w : EdgeTaken bytes (seenOf (k .at) (f .sofar)) from to words next = subst (λ (z : Seen). EdgeTaken bytes z from to words next) (f .seen) (gave e) in
-      let v = f .partly .columns in
+      let v = f .partly .ranges in
       record {
         sofar = withEdge (f .sofar) from to words;
         bus = f .bus;
@@ -211,8 +211,7 @@ module _ (bytes c₀ s₀ t₀ a₀ c s t a : List ℕ) (b : Bus) (k : Seen) (f 
 
   ended : (r : Parsed) (y : Reading) → y .plan ≡ f .sofar → y ≡ readingOf bytes → r ≡ parsedBy y → Ended r
   ended r y p q e =
-      let sp : f .sofar ≡ readingOf bytes .plan = sym p ∙ ap (λ (z : Reading). z .plan) q in
-      (
+      let sp : f .sofar ≡ readingOf bytes .plan = sym p ∙ ap (λ (z : Reading). z .plan) q in (
         e ∙ ap parsedBy q,
         (
           f .with-costs ∙ ap (λ (z : Plan). filled (z .costs) c₀) sp,

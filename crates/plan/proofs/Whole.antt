@@ -84,19 +84,19 @@ module _ (bytes : List ℕ) (parsed : Parsed) (costs sources targets amounts : L
 
   -- a field was refused
   pub fields-bad : {r : Refusal} → parsed .check ≡ Bad r → (record {
-        check = Bad r;
-        columns =
-            record {
-              bus = parsed .shape .bus;
-              tasks = parsed .shape .tasks;
-              edges = parsed .shape .edges;
-              costs = costs;
-              order = replicate 64 0;
-              sources = sources;
-              targets = targets;
-              amounts = amounts;
-            };
-      }) ≡ planRead bytes
+    check = Bad r;
+    columns =
+        record {
+          bus = parsed .shape .bus;
+          tasks = parsed .shape .tasks;
+          edges = parsed .shape .edges;
+          costs = costs;
+          order = replicate 64 0;
+          sources = sources;
+          targets = targets;
+          amounts = amounts;
+        };
+  }) ≡ planRead bytes
   unfolding planCheck
   fields-bad {r} b =
       let q : readingOf bytes .check ≡ Bad r = sym checked ∙ b in
@@ -110,10 +110,10 @@ module _ (bytes : List ℕ) (parsed : Parsed) (costs sources targets amounts : L
     facts = plan-valid bytes good
 
     pub few-tasks : parsed .shape .tasks ≤ 64
-    few-tasks = omega (arith, ap (λ (s : Shape). s .tasks) shaped, facts .valid .columns .few-tasks)
+    few-tasks = omega (arith, ap (λ (s : Shape). s .tasks) shaped, facts .valid .ranges .few-tasks)
 
     pub few-edges : parsed .shape .edges ≤ 256
-    few-edges = omega (arith, ap (λ (s : Shape). s .edges) shaped, facts .valid .columns .few-edges)
+    few-edges = omega (arith, ap (λ (s : Shape). s .edges) shaped, facts .valid .ranges .few-edges)
 
     pub sources-long : parsed .shape .edges ≤ length sources
     sources-long = omega (arith, few-edges, ap length es, filled-length (p .sources) (replicate 256 0), zeros 256)
@@ -124,18 +124,18 @@ module _ (bytes : List ℕ) (parsed : Parsed) (costs sources targets amounts : L
         let m = ap (λ (s : Shape). s .edges) shaped in
         let a : at sources j ≡ source p j =
         ap (λ (l : List ℕ). at l j) es
-        ∙ filled-at (p .sources) (replicate 256 0) j (omega (arith, facts .valid .columns .few-edges, zeros 256)) (omega (arith, m)) in
-        omega (arith, a, n, m, facts .valid .columns .sources-known j (omega (arith, m)))
+        ∙ filled-at (p .sources) (replicate 256 0) j (omega (arith, facts .valid .ranges .few-edges, zeros 256)) (omega (arith, m)) in
+        omega (arith, a, n, m, facts .valid .ranges .sources-known j (omega (arith, m)))
 
     sources-take : p .sources ≡ take (edges p) sources
-    sources-take = rw es (sym (filled-take (p .sources) (replicate 256 0) (edges p) refl (omega (arith, facts .valid .columns .few-edges, zeros 256))))
+    sources-take = rw es (sym (filled-take (p .sources) (replicate 256 0) (edges p) refl (omega (arith, facts .valid .ranges .few-edges, zeros 256))))
 
     targets-take : p .targets ≡ take (edges p) targets
     targets-take =
         rw et
         (sym
-        (filled-take (p .targets) (replicate 256 0) (edges p) (sym (facts .valid .columns .targets-all))
-        (omega (arith, facts .valid .columns .few-edges, facts .valid .columns .targets-all, zeros 256))))
+        (filled-take (p .targets) (replicate 256 0) (edges p) (sym (facts .valid .ranges .targets-all))
+        (omega (arith, facts .valid .ranges .few-edges, facts .valid .ranges .targets-all, zeros 256))))
 
     -- all fields are good, and the list order has decided
     pub fields-good : (check : Check) (order : List ℕ)

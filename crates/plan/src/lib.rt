@@ -486,13 +486,7 @@ fn index(x: u8) -> usize
 }
 
 // Edge e does not keep a task waiting: it ends elsewhere, or its source is taken.
-fn passes(
-    sources: &[u8; 256],
-    targets: &[u8; 256],
-    marks: &[u8; 64],
-    task: usize,
-    e: usize,
-) -> bool
+fn passes(sources: &[u8; 256], targets: &[u8; 256], marks: &[u8; 64], task: usize, e: usize) -> bool
     requires { ⌜ (e < 256) × (at (now sources) e < 64) ⌝ }
     ensures { λ r. ⌜ r ≡ passesBy (now (sources .entry)) (now (targets .entry)) (now (marks .entry)) task e ⌝ }
 {

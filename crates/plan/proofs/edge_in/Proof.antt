@@ -1,4 +1,4 @@
--- `plan::edge_in` meets its contract. 
+-- `plan::edge_in` meets its contract.
 use native.Mathlib.Omega.{arith}
 use mathlib.Core.Path.{_∙_}
 use Rattle.plan.proofs.Ways.{edge-many, edge-bad, edge-falls, edge-good}

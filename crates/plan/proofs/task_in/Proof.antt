@@ -1,4 +1,4 @@
--- `plan::task_in` meets its contract. 
+-- `plan::task_in` meets its contract.
 use mathlib.Core.Path.{_∙_}
 use Rattle.plan.proofs.Ways.{task-many, task-bad, task-good}
 use borrow.Author.Needs.{needs}
