@@ -113,7 +113,7 @@ madeOutput p out = onto out (andThen (making p out) (λ plan. gives (madeBytes p
 unfoldable pub writing : List ℕ → List ℕ → List ℕ → Outcome (List ℕ)
 writing p v out =
     andThen (planOf p)
-    (λ plan. passing (orElse (valuesCheck plan v) (room (20 * tasks plan) out)) (bytes (ofNumbers v) (tasks plan)))
+    (λ plan. passing (orElse (valuesCheck (cores plan) (tasks plan) v) (room (20 * tasks plan) out)) (bytes (ofNumbers v) (tasks plan)))
 
 abbrev pub writtenBy : Outcome (List ℕ) → Written
 writtenBy (gives front) = Written.Stored

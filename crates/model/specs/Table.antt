@@ -58,11 +58,12 @@ numbers t n = appendBelow (numbersAt t) n
 unfoldable pub fourBytes : ℕ → List ℕ
 fourBytes x = (x / 16777216) ∷ (x / 65536 % 256) ∷ (x / 256 % 256) ∷ (x % 256) ∷ []
 
--- the bytes of a task: tag 4, body length 17, core, four marks; and of the first n tasks
-unfoldable pub bytesAt : Table → ℕ → List ℕ
-bytesAt t i =
-    (4 ∷ 0 ∷ 17 ∷ t .core i ∷ [])
-    ++ (fourBytes (t .R i) ++ (fourBytes (t .E i) ++ (fourBytes (t .W i) ++ fourBytes (t .F i))))
+-- a field: tag 4, body length 17, core, four marks; of a task, and of the first n tasks
+unfoldable pub fieldBytes : ℕ → ℕ → ℕ → ℕ → ℕ → List ℕ
+fieldBytes core r e w f = (4 ∷ 0 ∷ 17 ∷ core ∷ []) ++ (fourBytes r ++ (fourBytes e ++ (fourBytes w ++ fourBytes f)))
+
+abbrev pub bytesAt : Table → ℕ → List ℕ
+bytesAt t i = fieldBytes (t .core i) (t .R i) (t .E i) (t .W i) (t .F i)
 
 abbrev pub bytes : Table → ℕ → List ℕ
 bytes t n = appendBelow (bytesAt t) n
@@ -71,33 +72,39 @@ bytes t n = appendBelow (bytesAt t) n
 unfoldable pub nonFalling : ℕ → ℕ → ℕ → ℕ → Bool
 nonFalling r e w f = leb r e && leb e w && leb w f
 
--- 10 "core not below cores", then 11 "R, E, W, F not in non-falling order", of task i
-unfoldable pub valuesAt : Plan → Table → ℕ → Check
-valuesAt p t i =
-    orElse (refuseIf (leb (cores p) (t .core i)) (refusal CoreUnknown OfTable (20 * i)))
-    (refuseIf (not (nonFalling (t .R i) (t .E i) (t .W i) (t .F i))) (refusal MarksFalling OfTable (20 * i)))
+-- 10 "core not below cores", then 11 "R, E, W, F not in non-falling order", with so many cores; of the values at a place,
+-- and of task i
+unfoldable pub valuesOf : ℕ → ℕ → ℕ → ℕ → ℕ → ℕ → ℕ → Check
+valuesOf cs place core r e w f =
+    orElse (refuseIf (leb cs core) (refusal CoreUnknown OfTable place))
+    (refuseIf (not (nonFalling r e w f)) (refusal MarksFalling OfTable place))
+
+abbrev pub valuesAt : ℕ → Table → ℕ → Check
+valuesAt cs t i = valuesOf cs (20 * i) (t .core i) (t .R i) (t .E i) (t .W i) (t .F i)
 
 -- "fields in order, 9 if none remains for a task; header cut, tag, length, body cut, 10, 11"
-abbrev pub rowBy : Plan → List ℕ → ℕ → Step → Check
-rowBy p s i End = Bad (refusal FieldCount OfTable (length s))
-rowBy p s i (Broken r) = Bad r
-rowBy p s i (Field tag place body) = valuesAt p (ofBytes s) i
+abbrev pub rowBy : ℕ → List ℕ → ℕ → Step → Check
+rowBy cs s i End = Bad (refusal FieldCount OfTable (length s))
+rowBy cs s i (Broken r) = Bad r
+rowBy cs s i (Field tag place body) = valuesAt cs (ofBytes s) i
 
-unfoldable pub rowAt : Plan → List ℕ → ℕ → Check
-rowAt p s i = rowBy p s i (tableStep s (20 * i))
+unfoldable pub rowAt : ℕ → List ℕ → ℕ → Check
+rowAt cs s i = rowBy cs s i (tableStep s (20 * i))
 
--- "then 9 for bytes left over"
-unfoldable pub tableCheck : Plan → List ℕ → Check
-tableCheck p s =
-    orElse (firstBad (rowAt p s) (tasks p))
-    (refuseIf (ltb (20 * tasks p) (length s)) (refusal FieldCount OfTable (20 * tasks p)))
+-- "then 9 for bytes left over": of a table of n tasks
+unfoldable pub rowsCheck : ℕ → ℕ → List ℕ → Check
+rowsCheck cs n s =
+    orElse (firstBad (rowAt cs s) n) (refuseIf (ltb (20 * n) (length s)) (refusal FieldCount OfTable (20 * n)))
+
+abbrev pub tableCheck : Plan → List ℕ → Check
+tableCheck p s = rowsCheck (cores p) (tasks p) s
 
 -- the numbers that table bytes are, for a plan
 unfoldable pub tableOf : Plan → List ℕ → Outcome (List ℕ)
 tableOf p s = passing (tableCheck p s) (numbers (ofBytes s) (tasks p))
 
 -- the writer's checks of given numbers: "9 at place 20n for another list length; then task by task 10, 11"
-unfoldable pub valuesCheck : Plan → List ℕ → Check
-valuesCheck p v =
-    orElse (refuseIf (not (eqb (length v) (5 * tasks p))) (refusal FieldCount OfTable (20 * tasks p)))
-    (firstBad (valuesAt p (ofNumbers v)) (tasks p))
+unfoldable pub valuesCheck : ℕ → ℕ → List ℕ → Check
+valuesCheck cs n v =
+    orElse (refuseIf (not (eqb (length v) (5 * n))) (refusal FieldCount OfTable (20 * n)))
+    (firstBad (valuesAt cs (ofNumbers v)) n)
