@@ -9,5 +9,6 @@ pub mod Plan
 pub mod Descent
 pub mod Graph
 pub mod Contention
+pub mod Placing
 pub mod Settles
 pub mod Rules
