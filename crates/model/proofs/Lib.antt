@@ -1,5 +1,6 @@
 pub mod Tests
 pub mod Below
+pub mod Sums
 pub mod Counts
 pub mod Refusals
 pub mod BusRule
@@ -11,4 +12,6 @@ pub mod Graph
 pub mod Contention
 pub mod Placing
 pub mod Settles
+pub mod Spans
+pub mod Chosen
 pub mod Rules
