@@ -14,4 +14,6 @@ pub mod Placing
 pub mod Settles
 pub mod Spans
 pub mod Chosen
+pub mod Renumbered
 pub mod Rules
+pub mod Accepts

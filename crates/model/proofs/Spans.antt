@@ -23,7 +23,7 @@ use Rattle.model.proofs.Contention.{of-read, of-write, of-even, of-odd,
 use Rattle.model.proofs.Placing.{spanAt, top-most, placed-top, placed-within, placed-gapless}
 use Rattle.model.proofs.Settles.{round-length}
 
-at-past : (l : List ℕ) (i : ℕ) → length l ≤ i → at l i ≡ 0
+pub at-past : (l : List ℕ) (i : ℕ) → length l ≤ i → at l i ≡ 0
 at-past l i h = List·getD-eq-default l 0 h
 
 -- ---- all tasks together read, and write, each edge's words at most once

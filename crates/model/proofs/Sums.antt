@@ -2,12 +2,13 @@
 use mathlib.Core.Path.{_≡_, refl, sym, ap, _∙_}
 use mathlib.Core.Bool.{Bool, true, false, cond}
 use Prim.Native.Nat.{ℕ, zero, suc, _+_, _≤_, _<_}
+use native.Mathlib.Nat.{le-antisymm}
 use native.Mathlib.Omega.{arith}
 use lib.Dec.{eqb}
 use borrow.Author.Tests.{eq-eqb, ne-eqb}
-use Rattle.model.specs.Below.{joinBelow, sumBelow, bit, countBelow}
+use Rattle.model.specs.Below.{joinBelow, sumBelow, bit, countBelow, maxBelow}
 use Rattle.model.proofs.Tests.{either, lt-or-ge, same-or-not, below-suc}
-use Rattle.model.proofs.Below.{sum-same, sum-zero, sum-add, sum-mono}
+use Rattle.model.proofs.Below.{sum-same, sum-zero, sum-add, sum-mono, max-ge, max-le}
 
 pub sum-swap : (f : ℕ → ℕ → ℕ) (n m : ℕ) → sumBelow (λ a. sumBelow (f a) m) n ≡ sumBelow (λ e. sumBelow (λ a. f a e) n) m
 unfolding joinBelow
@@ -67,3 +68,11 @@ module _ (n : ℕ) (to back : ℕ → ℕ) (r : Renumbering n to back) where
 
   pub count-renumbered : (p : ℕ → Bool) → countBelow (λ i. p (to i)) n ≡ countBelow p n
   count-renumbered p = sum-renumbered (λ a. bit (p a))
+
+  -- and the greatest of the old is the greatest of the new
+  pub max-renumbered : (f : ℕ → ℕ) → maxBelow (λ i. f (to i)) n ≡ maxBelow f n
+  max-renumbered f =
+      le-antisymm
+      (max-le (λ i. f (to i)) n (maxBelow f n) (λ i h. max-ge f n (to i) (r .to-within i h)))
+      (max-le f n (maxBelow (λ i. f (to i)) n)
+      (λ a h. omega (arith, ap f (r .to-back a h), max-ge (λ i. f (to i)) n (back a) (r .back-within a h))))
