@@ -2,54 +2,49 @@
 -- winner's table by place is good because nothing grows in its settled lengths; by task it is the same table under other
 -- numbers. Assumes nothing.
 use mathlib.Core.Path.{_≡_, refl, sym, ap, _∙_}
-use mathlib.Core.Bool.{Bool, true, false, cond, _&&_}
+use mathlib.Core.Bool.{true, false, _&&_}
 use mathlib.Core.List.{List}
-use Prim.Native.Nat.{ℕ, _+_, _*_, _-_, _/_, _%_, _≤_, _<_, zero-le, max}
+use Prim.Native.Nat.{ℕ, _+_, _*_, _/_, _%_, _≤_, _<_, max}
 use native.Mathlib.Omega.{arith}
 use lib.ListN.{length}
-use lib.Dec.{ltb, eqb}
+use lib.Dec.{eqb}
 use borrow.Author.Tests.{lt-ltb, eq-eqb}
-use Rattle.model.specs.Below.{at, listBelow, maxBelow}
-use Rattle.model.specs.Counts.{Settings}
+use Rattle.model.specs.Below.{at, maxBelow}
 use Rattle.model.specs.Plan.{Plan, Valid, tasks, edges, cores, cost, source, target, amount}
 use Rattle.model.specs.Graph.{placeOf, listOrder, leftOver}
-use Rattle.model.specs.Table.{Table}
-use Rattle.model.specs.Contention.{readWords, writeWords, ofPhase, phaseWords, Phases, phasesIn, phasesOf}
-use Rattle.model.specs.Rules.{delayAt, GoodTable, rulesCheck, makespan}
-use Rattle.model.specs.ListRule.{byPlace, added, Candidate, coreIn, candidate, windows, isSource, placed, grown, rounds, settled, finished, makespanOf, chosen, winner, made, madeMakespan}
+use Rattle.model.specs.Contention.{readWords, writeWords, Phases, phasesIn, phasesOf}
+use Rattle.model.specs.Rules.{delayAt, GoodTable, rulesCheck}
+use Rattle.model.specs.ListRule.{byPlace, added, Candidate, coreIn, candidate, isSource, placed, grown, settled, finished, makespanOf, chosen, winner, made, madeMakespan}
 use Rattle.model.specs.declared.Bus.{Bus}
 use Rattle.model.specs.declared.Check.the-variants.{Good}
 use Rattle.model.proofs.Tests.{lt-or-ge, same-or-not, and-true}
-use Rattle.model.proofs.Below.{list-at, list-length, any-here}
+use Rattle.model.proofs.Below.{list-at, any-here}
 use Rattle.model.proofs.Sums.{Renumbering, max-renumbered}
-use Rattle.model.proofs.Graph.{order-length, order-place, order-at, order-task, order-once, order-rises}
-use Rattle.model.proofs.Contention.{phase-words-at, of-even, of-odd, of-read, of-write}
+use Rattle.model.proofs.Graph.{order-place, order-at, order-task, order-once, order-rises}
+use Rattle.model.proofs.Contention.{phase-words-at, of-same, of-read, of-write}
 use Rattle.model.proofs.Placing.{placed-source, placed-core, placed-gapless}
 use Rattle.model.proofs.Settles.{settled-still}
-use Rattle.model.proofs.Spans.{at-past, Limits, added-tasks, added-cost, added-amount, candidate-tasks, candidate-words, marks-fit}
+use Rattle.model.proofs.Spans.{added-cost, added-amount, candidate-tasks, marks-fit}
 use Rattle.model.proofs.Chosen.{chosen-length, chosen-core}
+use Rattle.model.proofs.ByPlace.{by-place-tasks, by-place-edges, by-place-cost, by-place-source, by-place-target, by-place-amount, by-place-limits}
 use Rattle.model.proofs.Renumbered.{phaseTo, phase-task, of-renumbered, phases-renumbered, Moved, delay-moved, Copied, reads-same, writes-same}
 use Rattle.model.proofs.Rules.{good-passes}
 
-of-same : (f g f' g' : ℕ → ℕ) (x : ℕ) → f (x / 2) ≡ f' (x / 2) → g (x / 2) ≡ g' (x / 2) → ofPhase f g x ≡ ofPhase f' g' x
-unfolding ofPhase
-of-same f g f' g' x a b = rw (a, b)
+-- the phases of a candidate, by place
+abbrev pub finishedPhases : Candidate → Phases
+finishedPhases c = phasesIn (tasks (c .plan)) (finished c) (c .words)
 
 -- ---- a candidate whose lengths have settled: each window lasts its delay
 module _ (c : Candidate) where
-  pub settled-long : (x : ℕ) → x < 2 * tasks (c .plan)
-      → delayAt (c .plan .bus) (phasesIn (tasks (c .plan)) (finished c) (c .words)) x ≤ at (settled c) x
+  pub settled-long : (x : ℕ) → x < 2 * tasks (c .plan) → delayAt (c .plan .bus) (finishedPhases c) x ≤ at (settled c) x
   unfolding grown finished
   settled-long x h =
-      let hc = phasesIn (tasks (c .plan)) (placed c (settled c)) (c .words) in
-      let e : at (settled c) x ≡ max (at (settled c) x) (delayAt (c .plan .bus) hc x) =
+      let e : at (settled c) x ≡ max (at (settled c) x) (delayAt (c .plan .bus) (finishedPhases c) x) =
       ap (λ (l : List ℕ). at l x) (sym (settled-still c)) ∙ list-at _ (2 * tasks (c .plan)) x h in
       omega (arith, e)
 
   pub finished-lasts : (x : ℕ) → x < 2 * tasks (c .plan)
-      → phasesIn (tasks (c .plan)) (finished c) (c .words) .start x
-      + delayAt (c .plan .bus) (phasesIn (tasks (c .plan)) (finished c) (c .words)) x
-      ≤ phasesIn (tasks (c .plan)) (finished c) (c .words) .end x
+      → finishedPhases c .start x + delayAt (c .plan .bus) (finishedPhases c) x ≤ finishedPhases c .end x
   unfolding finished placed
   finished-lasts x h =
       let t = finished c in
@@ -64,52 +59,8 @@ module _ (c : Candidate) where
       let len : at (settled c) (2 * (x / 2) + 1) ≡ at (settled c) x = ap (at (settled c)) back in
       rw (of-write (t .R) (t .W) x e, of-write (t .E) (t .F) x e) (omega (arith, d, len)))
 
--- ---- the plan in list order
+-- ---- the winner: every place of it, with all edges
 module _ (p : Plan) where
-  pub by-place-tasks : tasks (byPlace p) ≡ tasks p
-  unfolding byPlace
-  by-place-tasks = list-length (λ a. cost p (at (listOrder p) a)) (tasks p)
-
-  pub by-place-edges : edges (byPlace p) ≡ edges p
-  unfolding byPlace
-  by-place-edges = list-length (λ e. placeOf (listOrder p) (source p e)) (edges p)
-
-  pub by-place-cost : (a : ℕ) → a < tasks p → cost (byPlace p) a ≡ cost p (at (listOrder p) a)
-  unfolding byPlace
-  by-place-cost a h = list-at (λ a. cost p (at (listOrder p) a)) (tasks p) a h
-
-  pub by-place-source : (e : ℕ) → e < edges p → source (byPlace p) e ≡ placeOf (listOrder p) (source p e)
-  unfolding byPlace
-  by-place-source e h = list-at (λ e. placeOf (listOrder p) (source p e)) (edges p) e h
-
-  pub by-place-target : (e : ℕ) → e < edges p → target (byPlace p) e ≡ placeOf (listOrder p) (target p e)
-  unfolding byPlace
-  by-place-target e h = list-at (λ e. placeOf (listOrder p) (target p e)) (edges p) e h
-
-  pub by-place-amount : (e : ℕ) → amount (byPlace p) e ≡ amount p e
-  unfolding byPlace
-  by-place-amount e = refl
-
-  pub by-place-bus : byPlace p .bus ≡ p .bus
-  unfolding byPlace
-  by-place-bus = refl
-
-  pub by-place-limits : Valid p → ((i : ℕ) → cost p i ≤ 65535) → Limits (byPlace p)
-  unfolding byPlace
-  by-place-limits v costs =
-      record {
-        settings = v .settings;
-        few-tasks = omega (arith, by-place-tasks, v .ranges .few-tasks);
-        few-edges = omega (arith, by-place-edges, v .ranges .few-edges);
-        costs-most =
-            λ i.
-            lt-or-ge i (tasks p)
-            (λ l. rw (by-place-cost i l) (costs (at (listOrder p) i)))
-            (λ l. rw (at-past (byPlace p .costs) i (omega (arith, by-place-tasks))) zero-le);
-        amounts-most = v .ranges .amounts-most;
-      }
-
-  -- ---- the winner: every place of it, with all edges
   abbrev c : Candidate
   c = winner (byPlace p)
 
@@ -117,20 +68,27 @@ module _ (p : Plan) where
   choices = chosen (byPlace p) (tasks (byPlace p))
 
   choices-length : length choices ≡ tasks p
-  choices-length = chosen-length (byPlace p) (tasks (byPlace p)) ∙ by-place-tasks
+  choices-length = chosen-length (byPlace p) (tasks (byPlace p)) ∙ by-place-tasks p
 
   winner-tasks : tasks (c .plan) ≡ tasks p
   unfolding winner
-  winner-tasks = candidate-tasks (byPlace p) choices (omega (arith, choices-length, by-place-tasks)) ∙ choices-length
+  winner-tasks = candidate-tasks (byPlace p) choices (omega (arith, choices-length, by-place-tasks p)) ∙ choices-length
 
   winner-bus : c .plan .bus ≡ p .bus
   unfolding winner candidate added byPlace
   winner-bus = refl
 
-  module _ (v : Valid p) (full : leftOver p ≡ false) where
-    abbrev to : ℕ → ℕ
-    to = placeOf (listOrder p)
+  -- the place of a task
+  abbrev to : ℕ → ℕ
+  to = placeOf (listOrder p)
 
+  pub made-marks : (i : ℕ) → (made p .R i ≤ made p .E i) × (made p .E i ≤ made p .W i) × (made p .W i ≤ made p .F i)
+  unfolding made finished
+  made-marks i =
+      let g = placed-gapless c (settled c) (to i) in
+      omega (arith, g .executes, g .writes, g .ends)
+
+  module _ (v : Valid p) (full : leftOver p ≡ false) where
     order : Renumbering (tasks p) to (at (listOrder p))
     order = record { to-within = order-place p full; back-within = order-task p full; to-back = order-once p full; back-to = order-at p full }
 
@@ -139,29 +97,29 @@ module _ (p : Plan) where
     winner-amount e h =
         let q = byPlace p in
         let k = length choices in
-        let from : source q e < k = omega (arith, by-place-source e h, choices-length, order-place p full (source p e) (v .ranges .sources-known e h)) in
-        let into : target q e < k = omega (arith, by-place-target e h, choices-length, order-place p full (target p e) (v .ranges .targets-known e h)) in
-        added-amount q k e (omega (arith, by-place-edges)) ∙ rw (lt-ltb (source q e) k from, lt-ltb (target q e) k into) (by-place-amount e)
+        let from : source q e < k = omega (arith, by-place-source p e h, choices-length, order-place p full (source p e) (v .ranges .sources-known e h)) in
+        let into : target q e < k = omega (arith, by-place-target p e h, choices-length, order-place p full (target p e) (v .ranges .targets-known e h)) in
+        added-amount q k e (omega (arith, by-place-edges p)) ∙ rw (lt-ltb (source q e) k from, lt-ltb (target q e) k into) (by-place-amount p e)
 
     winner-cost : (i : ℕ) → i < tasks p → cost (c .plan) (to i) ≡ cost p i
     unfolding winner candidate
     winner-cost i h =
         let a = order-place p full i h in
         added-cost (byPlace p) (length choices) (to i) (omega (arith, choices-length))
-        ∙ by-place-cost (to i) a
+        ∙ by-place-cost p (to i) a
         ∙ ap (cost p) (order-at p full i h)
 
     copied : Copied p (c .plan) (made p .core) (coreIn choices) to
     unfolding winner candidate added made finished placed
     copied =
         record {
-          edges-same = by-place-edges;
+          edges-same = by-place-edges p;
           sources-known = v .ranges .sources-known;
           targets-known = v .ranges .targets-known;
-          sources-moved = by-place-source;
-          targets-moved = by-place-target;
+          sources-moved = by-place-source p;
+          targets-moved = by-place-target p;
           amounts-same = winner-amount;
-          cores-moved = λ i. refl;
+          cores-moved = λ i _. refl;
           apart = λ i j h k e. sym (order-at p full i h) ∙ ap (at (listOrder p)) e ∙ order-at p full j k;
         }
 
@@ -179,7 +137,7 @@ module _ (p : Plan) where
     byTask = phasesOf p (made p)
 
     abbrev byRank : Phases
-    byRank = phasesIn (tasks (c .plan)) (finished c) (c .words)
+    byRank = finishedPhases c
 
     words-moved : (x : ℕ) → x < 2 * tasks p → byTask .words x ≡ byRank .words (phaseTo to x)
     unfolding winner candidate
@@ -250,19 +208,13 @@ module _ (p : Plan) where
     pub made-core : (i : ℕ) → i < tasks p → made p .core i < cores p
     unfolding made finished placed winner candidate byPlace
     made-core i h =
-        chosen-core (byPlace p) (tasks (byPlace p)) (to i) (v .settings .cores-some) (omega (arith, by-place-tasks, order-place p full i h))
-
-    pub made-marks : (i : ℕ) → (made p .R i ≤ made p .E i) × (made p .E i ≤ made p .W i) × (made p .W i ≤ made p .F i)
-    unfolding made finished
-    made-marks i =
-        let g = placed-gapless c (settled c) (to i) in
-        omega (arith, g .executes, g .writes, g .ends)
+        chosen-core (byPlace p) (tasks (byPlace p)) (to i) (v .settings .cores-some) (omega (arith, by-place-tasks p, order-place p full i h))
 
     -- "All marks stay under 2^31"
     pub made-fits : ((i : ℕ) → cost p i ≤ 65535) → (i : ℕ) → i < tasks p → made p .F i < 2147483648
     unfolding made finished settled winner
     made-fits costs i h =
-        marks-fit (byPlace p) (by-place-limits v costs) choices (omega (arith, choices-length, by-place-tasks)) _ (to i)
+        marks-fit (byPlace p) (by-place-limits p v costs) choices (omega (arith, choices-length, by-place-tasks p)) _ (to i)
         (omega (arith, choices-length, order-place p full i h))
 
     -- the makespan is the winner's

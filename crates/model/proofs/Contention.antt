@@ -128,3 +128,8 @@ of-even f g i = of-read f g (2 * i) (omega arith) ∙ ap f (half-even i)
 
 pub of-odd : (f g : ℕ → ℕ) (i : ℕ) → ofPhase f g (2 * i + 1) ≡ g i
 of-odd f g i = of-write f g (2 * i + 1) (λ e. omega arith) ∙ ap g (half-odd i)
+
+-- by the values at its task
+pub of-same : (f g f' g' : ℕ → ℕ) (x : ℕ) → f (x / 2) ≡ f' (x / 2) → g (x / 2) ≡ g' (x / 2) → ofPhase f g x ≡ ofPhase f' g' x
+unfolding ofPhase
+of-same f g f' g' x a b = rw (a, b)

@@ -6,6 +6,7 @@ pub mod Refusals
 pub mod BusRule
 pub mod Waits
 pub mod Field
+pub mod RoundTrip
 pub mod Plan
 pub mod Descent
 pub mod Graph
@@ -14,6 +15,8 @@ pub mod Placing
 pub mod Settles
 pub mod Spans
 pub mod Chosen
+pub mod ByPlace
 pub mod Renumbered
 pub mod Rules
 pub mod Accepts
+pub mod MakeVerify

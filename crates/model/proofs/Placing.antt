@@ -11,13 +11,13 @@ use native.Mathlib.Omega.{arith}
 use lib.ListN.{length}
 use lib.Dec.{ltb, eqb}
 use borrow.Author.Tests.{le-ltb, eq-eqb, not-true, not-false}
-use Rattle.model.specs.Below.{at, joinBelow, sumBelow, maxBelow, anyBelow, firstBelow}
+use Rattle.model.specs.Below.{at, joinBelow, sumBelow, anyBelow, firstBelow}
 use Rattle.model.specs.Plan.{tasks, cost}
 use Rattle.model.specs.Table.{Table}
 use Rattle.model.specs.Contention.{Phases, ofPhase, phasesIn, overlap, rival}
 use Rattle.model.specs.Rules.{makespan}
 use Rattle.model.specs.ListRule.{Candidate, coreIn, exclusive, windows, isSource, earliest, clashes, leastFree, LeastFree, startOf, startsOf, placed}
-use Rattle.model.proofs.Tests.{either, conflict, lt-or-ge, same-or-not, below-suc, and-no, or-none, or-left, or-right, cond-le}
+use Rattle.model.proofs.Tests.{either, conflict, lt-or-ge, same-or-not, and-no, or-none, or-left, or-right, cond-le}
 use Rattle.model.proofs.Below.{first, first-le, max-ge, max-le, max-same, any-none, any-same}
 use Rattle.model.proofs.Plan.{snoc-length, snoc-old, snoc-new}
 use Rattle.model.proofs.Contention.{of-read, of-write, half-even, half-odd, of-even, of-odd}

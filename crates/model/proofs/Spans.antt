@@ -1,22 +1,22 @@
 -- "All marks stay under 2^31": in every round of every candidate. A length is at most 512 for each word of its phase; each
 -- edge's words are read once and written once; so the spans together are at most 2·512·256·4,095 + 64·65,535. Assumes nothing.
-use mathlib.Core.Path.{_≡_, refl, sym, ap, _∙_}
-use mathlib.Core.Bool.{Bool, cond, _&&_}
+use mathlib.Core.Path.{_≡_, refl, ap, _∙_}
+use mathlib.Core.Bool.{cond, _&&_}
 use mathlib.Core.List.{List}
-use Prim.Native.Nat.{ℕ, suc, _+_, _*_, _-_, _/_, _%_, _≤_, _<_, zero-le, min}
+use Prim.Native.Nat.{ℕ, suc, _+_, _*_, _/_, _%_, _≤_, _<_, zero-le}
 use native.Mathlib.Nat.{le-trans, le-refl}
 use native.Mathlib.Omega.{arith}
 use lib.ListN.{length, take, length-take, List·getD-eq-default}
 use lib.Seq.{getD-take}
 use lib.Dec.{ltb, eqb}
-use Rattle.model.specs.Below.{at, sumBelow, listBelow}
-use Rattle.model.specs.Counts.{delay, mostWords, Settings}
-use Rattle.model.specs.Plan.{Plan, tasks, edges, cores, cost, source, target, amount}
-use Rattle.model.specs.Contention.{moved, readWords, writeWords, ofPhase, phaseWords}
+use Rattle.model.specs.Below.{at, sumBelow}
+use Rattle.model.specs.Counts.{mostWords, Settings}
+use Rattle.model.specs.Plan.{Plan, tasks, edges, cost, source, target, amount}
+use Rattle.model.specs.Contention.{moved, readWords, writeWords, phaseWords}
 use Rattle.model.specs.Rules.{makespan}
 use Rattle.model.specs.ListRule.{added, Candidate, coreIn, candidate, windows, startsOf, placed, rounds}
 use Rattle.model.proofs.Tests.{lt-or-ge, same-or-not, cond-le}
-use Rattle.model.proofs.Below.{sum-le, sum-mono, sum-same, sum-add, sum-scale, sum-longer, sum-ge, join-suc, list-at, list-length}
+use Rattle.model.proofs.Below.{sum-le, sum-mono, sum-add, sum-scale, sum-longer, sum-ge, join-suc, list-at, list-length}
 use Rattle.model.proofs.Sums.{sum-shared}
 use Rattle.model.proofs.Counts.{delay-most}
 use Rattle.model.proofs.Contention.{of-read, of-write, of-even, of-odd, phase-words-at, phase-words-length}
