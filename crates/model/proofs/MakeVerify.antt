@@ -13,7 +13,7 @@ use Rattle.model.specs.Table.{Table, ofNumbers, ofBytes, numbers, tableC
 use Rattle.model.specs.Contention.{phasesOf}
 use Rattle.model.specs.Rules.{GoodTable, delayAt, rulesCheck, makespan}
 use Rattle.model.specs.ListRule.{made, madeBytes, madeMakespan}
-use Rattle.model.specs.Answers.{judged, verdictOf, making, madeBy, madeOf, madeOutput}
+use Rattle.model.specs.Answers.{room, judged, verdictOf, making, madeBy, madeOf, madeOutput}
 use Rattle.model.specs.declared.Verdict.{Verdict}
 use Rattle.model.specs.declared.Made.{Made}
 use Rattle.model.specs.declared.Time.{Time}
@@ -131,5 +131,5 @@ verify-makes plan out m e =
     (λ p o k.
     and-then (planOf plan) _ o
     (λ q r g.
-    let same : q ≡ p = passed _ _ g .1 in
+    let same : q ≡ p = passed (room (20 * tasks q) out) q g .1 in
     (madeBytes p, rw o, verify-made plan (r ∙ ap gives same) ∙ ap Verdict.Accepted k)))
