@@ -136,10 +136,10 @@ module _ (p : Plan) where
     abbrev byTask : Phases
     byTask = phasesOf p (made p)
 
-    abbrev byRank : Phases
-    byRank = finishedPhases c
+    abbrev byPlaces : Phases
+    byPlaces = finishedPhases c
 
-    words-moved : (x : ℕ) → x < 2 * tasks p → byTask .words x ≡ byRank .words (phaseTo to x)
+    words-moved : (x : ℕ) → x < 2 * tasks p → byTask .words x ≡ byPlaces .words (phaseTo to x)
     unfolding winner candidate
     words-moved x h =
         let i = x / 2 in
@@ -149,7 +149,7 @@ module _ (p : Plan) where
         ∙ sym (of-renumbered to x (readWords (c .plan) (coreIn choices)) (writeWords (c .plan) (coreIn choices)))
         ∙ sym (phase-words-at (c .plan) (coreIn choices) (phaseTo to x) (omega (arith, winner-tasks, phases-renumbered (tasks p) to (at (listOrder p)) order .to-within x h)))
 
-    phases-moved : Moved byTask byRank (phaseTo to)
+    phases-moved : Moved byTask byPlaces (phaseTo to)
     unfolding made finished placed
     phases-moved =
         record {
@@ -164,9 +164,9 @@ module _ (p : Plan) where
     lasts : (x : ℕ) → x < 2 * tasks p → byTask .start x + delayAt (p .bus) byTask x ≤ byTask .end x
     lasts x h =
         let r = phases-renumbered (tasks p) to (at (listOrder p)) order in
-        let d = delay-moved byTask byRank (phaseTo to) (phaseTo (at (listOrder p))) r phases-moved (p .bus) x h in
+        let d = delay-moved byTask byPlaces (phaseTo to) (phaseTo (at (listOrder p))) r phases-moved (p .bus) x h in
         let k : phaseTo to x < 2 * tasks (c .plan) = omega (arith, winner-tasks, r .to-within x h) in
-        let bus = ap (λ (b : Bus). delayAt b byRank (phaseTo to x)) winner-bus in
+        let bus = ap (λ (b : Bus). delayAt b byPlaces (phaseTo to x)) winner-bus in
         omega (arith, d, bus, phases-moved .start x h, phases-moved .end x h, finished-lasts c (phaseTo to x) k)
 
     executes : (i : ℕ) → i < tasks p → made p .E i + cost p i ≤ made p .W i
@@ -200,7 +200,7 @@ module _ (p : Plan) where
     pub made-good : GoodTable p (made p)
     made-good = record { executes = executes; follows = follows; apart = apart; lasts = lasts }
 
-    -- "`verify` accepts what `make` writes": no rule refuses the table
+    -- no rule refuses the table
     pub made-passes : rulesCheck p (made p) ≡ Good
     made-passes = good-passes p (made p) made-good
 

@@ -1,5 +1,5 @@
--- "`verify` accepts what `make` writes", in bytes: the bytes of the list rule's table are a table of the plan, no rule refuses
--- it, and the verifier answers with the maker's makespan. Assumes nothing.
+-- The verifier accepts what the maker writes: the bytes of the list rule's table are a table of the plan, no rule refuses it,
+-- and the verifier answers with the maker's makespan. Assumes nothing.
 use mathlib.Core.Path.{_≡_, refl, sym, ap, _∙_}
 use mathlib.Core.Bool.{false}
 use mathlib.Core.List.{List, _++_}

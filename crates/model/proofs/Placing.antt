@@ -4,20 +4,22 @@
 -- Assumes nothing.
 use mathlib.Core.Path.{_≡_, refl, sym, ap, subst, _∙_}
 use mathlib.Core.Bool.{Bool, true, false, cond, not, _&&_, _||_}
-use mathlib.Core.List.{List, [], _∷_, _++_}
+use mathlib.Core.List.{List, [], _∷_, _++_, append-assoc}
 use Prim.Native.Nat.{ℕ, zero, suc, _+_, _*_, _-_, _/_, _%_, _≤_, _<_, zero-le}
 use native.Mathlib.Nat.{le-refl}
+use native.Mathlib.Numerals.{add-one}
 use native.Mathlib.Omega.{arith}
-use lib.ListN.{length}
+use lib.ListN.{length, drop, set, List·getD-append}
+use lib.Seq.{drop-cons, set-at}
 use lib.Dec.{ltb, eqb}
-use borrow.Author.Tests.{le-ltb, eq-eqb, not-true, not-false}
+use borrow.Author.Tests.{ltb-true, lt-ltb, le-ltb, eq-eqb, not-true, not-false}
 use Rattle.model.specs.Below.{at, joinBelow, sumBelow, anyBelow, firstBelow}
 use Rattle.model.specs.Plan.{tasks, cost}
 use Rattle.model.specs.Table.{Table}
 use Rattle.model.specs.Contention.{Phases, ofPhase, phasesIn, overlap, rival}
 use Rattle.model.specs.Rules.{makespan}
 use Rattle.model.specs.ListRule.{Candidate, coreIn, exclusive, windows, isSource, earliest, clashes, leastFree, LeastFree, startOf, startsOf, placed}
-use Rattle.model.proofs.Tests.{either, conflict, lt-or-ge, same-or-not, and-no, or-none, or-left, or-right, cond-le}
+use Rattle.model.proofs.Tests.{either, conflict, lt-or-ge, same-or-not, and-true, and-both, and-no, or-none, or-left, or-right, cond-le}
 use Rattle.model.proofs.Below.{first, first-le, max-ge, max-le, max-same, any-none, any-same}
 use Rattle.model.proofs.Plan.{snoc-length, snoc-old, snoc-new}
 use Rattle.model.proofs.Contention.{of-read, of-write, half-even, half-odd, of-even, of-odd}
@@ -57,7 +59,7 @@ least-one clash from r s f g =
     (λ l. conflict (g .least r (f .later) l) (f .clear))
     (λ l. lt-or-ge s r (λ m. conflict (f .least s (g .later) m) (g .clear)) (λ m. omega arith))
 
--- it lies within any later time that is clear
+-- the search ends at `top` at the latest
 pub least-within : (clash : ℕ → Bool) (from top : ℕ) → from ≤ top → leastFree clash from top ≤ top
 unfolding leastFree
 least-within clash from top l = omega (arith, first-le (λ d. not (clash (from + d))) (top - from))
@@ -79,6 +81,18 @@ pub meets-after : (h : Phases) (m w s e y : ℕ) → h .end y ≤ s → meets h 
 unfolding meets
 meets-after h m w s e y l =
     rw (le-ltb s (h .end y) l, and-no (ltb 0 w && ltb 0 (h .words y))) (and-no (not (eqb m (h .core y))))
+
+-- moved on, it goes on meeting the phase until it starts at the phase's end
+pub meets-moved : (h : Phases) (m w s e y d : ℕ) → meets h m w s e y ≡ true → s + d < h .end y → meets h m w (s + d) (e + d) y ≡ true
+unfolding meets
+meets-moved h m w s e y d t k =
+    let other = not (eqb m (h .core y)) in
+    let carry = ltb 0 w && ltb 0 (h .words y) in
+    let a = and-both other (carry && (ltb s (h .end y) && ltb (h .start y) e)) t in
+    let b = and-both carry (ltb s (h .end y) && ltb (h .start y) e) (a .1) in
+    let last = ltb-true (h .start y) e (and-both (ltb s (h .end y)) (ltb (h .start y) e) (b .1) .1) in
+    and-true other _ (a .0)
+    (and-true carry _ (b .0) (and-true _ _ (lt-ltb (s + d) (h .end y) k) (lt-ltb (h .start y) (e + d) (omega arith))))
 
 module _ (c : Candidate) (l : List ℕ) where
   -- ---- not before the F of a source, or of an earlier place on the core
@@ -196,6 +210,25 @@ module _ (c : Candidate) (l : List ℕ) where
       (λ e. rw (start-exclusive s a e) (least-within _ _ _ (earliest-within s a)))
       (λ e. rw (start-overlapping s a e) (earliest-within s a))
 
+  -- for code that has the starts s of the first a places at the front of a column t
+  module _ (s t : List ℕ) (a r : ℕ) (long : length s ≡ a) (same : (b : ℕ) → b < a → at s b ≡ at t b) where
+    pub overlapping-start : exclusive (c .choices) a ≡ false → r ≡ earliest c l t a → r ≡ startOf c l s a
+    overlapping-start e k = k ∙ sym (earliest-same s t a same) ∙ sym (start-overlapping s a e)
+
+    pub exclusive-start :
+        exclusive (c .choices) a ≡ true
+        → LeastFree (λ x. anyBelow (clashing (phasesIn a (windows c l t) (c .words)) a x) (2 * a)) (earliest c l t a) r
+        → r ≡ startOf c l s a
+    exclusive-start e f =
+        let from = earliest-same s t a same in
+        least-one (clashes c l s a) (earliest c l s a) r (startOf c l s a)
+        (record {
+          later = omega (arith, from, f .later);
+          clear = clashes-met s t a a r long same ∙ f .clear;
+          least = λ x k m. clashes-met s t a a x long same ∙ f .least x (omega (arith, from)) m;
+        })
+        (start-least s a long e)
+
   -- ---- the starts in list order: earlier ones stay
   pub starts-length : (a : ℕ) → length (startsOf c l a) ≡ a
   unfolding startsOf
@@ -219,6 +252,25 @@ module _ (c : Candidate) (l : List ℕ) where
 
   pub starts-at : (n a : ℕ) → a < n → at (startsOf c l n) a ≡ startOf c l (startsOf c l a) a
   starts-at n a h = starts-stay n (suc a) a h (omega arith) ∙ starts-new a
+
+  -- a column that holds them before other numbers
+  pub column-at : (t rest : List ℕ) (a b : ℕ) → t ≡ startsOf c l a ++ rest → b < a → at (startsOf c l a) b ≡ at t b
+  column-at t rest a b e k =
+      rw e (sym (List·getD-append (startsOf c l a) rest 0 b (omega (arith, starts-length a))))
+
+  pub column-none : (t : List ℕ) → t ≡ startsOf c l 0 ++ drop 0 t
+  unfolding startsOf
+  column-none t = refl
+
+  pub column-more :
+      (t u : List ℕ) (a r : ℕ) → a < length t → u ≡ startsOf c l a ++ drop a t → r ≡ startOf c l (startsOf c l a) a
+      → set u a r ≡ startsOf c l (a + 1) ++ drop (a + 1) t
+  unfolding startsOf
+  column-more t u a r h e q =
+      let s = startsOf c l a in
+      let v = startOf c l s a in
+      rw (e, q, drop-cons t a 0 h, set-at s (at t a) (drop (suc a) t) v a (starts-length a), add-one)
+      (sym (append-assoc s (v ∷ []) (drop (suc a) t)))
 
   -- no place starts after the greatest F before it: so the greatest F is at most the sum of the spans
   pub top-most : (a : ℕ) → makespan a (windows c l (startsOf c l a)) ≤ sumBelow (spanAt c l) a
