@@ -13,8 +13,8 @@ use native.Mathlib.Nat.{eq-or-lt-of-le, le-antisymm}
 use native.Mathlib.Numerals.{add-one}
 use native.Mathlib.Omega.{arith}
 use lib.Dec.{ltb}
-use lib.ListN.{length, getD, drop, set, length-append, List·getD-append}
-use lib.Seq.{drop-cons, set-at, getD-at}
+use lib.ListN.{length, getD, take, drop, set, length-append, List·getD-append}
+use lib.Seq.{drop-cons, set-at, getD-at, length-take-le}
 use borrow.Author.Tests.{lt-ltb, le-ltb, ltb-true, ltb-false}
 use Rattle.model.specs.Below.{joinBelow, sumBelow, bit, countBelow, maxBelow, allBelow, anyBelow, listBelow, appendBelow, firstBelow, bestBelow, First, Best, leastBelow, at}
 use Rattle.model.proofs.Tests.{either, conflict, lt-or-ge, same-or-not, below-suc, and-both, or-none, or-left, or-right, or-false}
@@ -355,3 +355,7 @@ pub fill-step : (f : ℕ → ℕ) (l m : List ℕ) (i x : ℕ) → i < length l 
 fill-step f l m i x h e q =
     rw (e, q, drop-cons l i 0 h, set-at (listBelow f i) (getD l i 0) (drop (suc i) l) (f i) i (list-length f i), join-step, add-one)
     (sym (append-assoc (listBelow f i) (f i ∷ []) (drop (suc i) l)))
+
+-- the front of a list is as long as asked
+pub take-count : (n : ℕ) (l : List ℕ) → n ≤ length l → n ≡ length (take n l)
+take-count n l h = sym (length-take-le n l h)

@@ -16,7 +16,7 @@ use Rattle.model.specs.declared.Check.{Check}
 use Rattle.model.specs.declared.Check.the-variants.{Good, Bad}
 use Rattle.model.proofs.Plan.{Read, plan-valid}
 use Rattle.plan.specs.Order.{graphOf}
-use Rattle.plan.specs.Planned.{parsedBy, filled, orderBy, columnsOf, planCheck, planRead}
+use Rattle.plan.specs.Planned.{parsedBy, filled, orderBy, columnsOf, planCheck, planRead, Sized}
 use Rattle.plan.specs.declared.Parsed.{Parsed}
 use Rattle.plan.specs.declared.Shape.{Shape}
 use Rattle.plan.specs.declared.Columns.{Columns}
@@ -164,3 +164,23 @@ module _ (bytes : List ℕ) (parsed : Parsed) (costs sources targets amounts : L
         whole check order
         (rw good (ck ∙ ap (λ (x : Plan). refuseIf (leftOver x) (refusal Cyclic OfPlan (length bytes))) g ∙ rw (left-graph p sources targets sources-take targets-take)))
         (rw good (od ∙ ap (λ (x : Plan). filled (listOrder x) (replicate 64 0)) g ∙ rw (order-graph p sources targets sources-take targets-take)))
+
+-- ---- for the callers of `read_plan`
+long : (front : List ℕ) (n : ℕ) → n ≡ length (filled front (replicate n 0))
+long front n = sym (filled-length front (replicate n 0) ∙ zeros n)
+
+ordered-long : (p : Plan) (c : Check) → 64 ≡ length (orderBy p c)
+ordered-long p Good = long (listOrder p) 64
+ordered-long p (Bad r) = sym (zeros 64)
+
+pub read-sized : (bytes : List ℕ) (r : PlanRead) → r ≡ planRead bytes → Sized (r .columns)
+unfolding planRead columnsOf
+read-sized bytes r e =
+    rw e
+    (record {
+      costs = long (readingOf bytes .plan .costs) 64;
+      order = ordered-long (readingOf bytes .plan) (readingOf bytes .check);
+      sources = long (readingOf bytes .plan .sources) 256;
+      targets = long (readingOf bytes .plan .targets) 256;
+      amounts = long (readingOf bytes .plan .amounts) 256;
+    })

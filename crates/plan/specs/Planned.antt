@@ -1,6 +1,7 @@
 -- What the plan reader gives: the refusal, if there is one, and the columns of the plan; of a plan that is refused at a field,
 -- what was read before it.
 -- Assumes nothing.
+use mathlib.Core.Path.{_≡_}
 use Prim.Native.Nat.{ℕ, _+_}
 use mathlib.Core.Bool.{true}
 use mathlib.Core.List.{List}
@@ -70,3 +71,11 @@ afterTask s next = record { at = next; started = s .started; tasks = s .tasks + 
 abbrev pub afterEdge : Seen → ℕ → ℕ → ℕ → Seen
 afterEdge s from to next =
     record { at = next; started = s .started; tasks = s .tasks; edges = s .edges + 1; least = keyOf from to + 1 }
+
+-- the columns are as long as their arrays
+pub record Sized (c : Columns) : Type 0 where
+  pub costs : 64 ≡ length (c .costs)
+  pub order : 64 ≡ length (c .order)
+  pub sources : 256 ≡ length (c .sources)
+  pub targets : 256 ≡ length (c .targets)
+  pub amounts : 256 ≡ length (c .amounts)
