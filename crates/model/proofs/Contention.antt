@@ -116,3 +116,20 @@ of-read f g x e = rw (eq-eqb (x % 2) 0 e)
 pub of-write : (f g : ℕ → ℕ) (x : ℕ) → (x % 2 ≡ 0 → ⊥) → ofPhase f g x ≡ g (x / 2)
 unfolding ofPhase
 of-write f g x e = rw (ne-eqb (x % 2) 0 e)
+
+pub half-even : (i : ℕ) → 2 * i / 2 ≡ i
+half-even i = omega arith
+
+pub half-odd : (i : ℕ) → (2 * i + 1) / 2 ≡ i
+half-odd i = omega arith
+
+pub of-even : (f g : ℕ → ℕ) (i : ℕ) → ofPhase f g (2 * i) ≡ f i
+of-even f g i = of-read f g (2 * i) (omega arith) ∙ ap f (half-even i)
+
+pub of-odd : (f g : ℕ → ℕ) (i : ℕ) → ofPhase f g (2 * i + 1) ≡ g i
+of-odd f g i = of-write f g (2 * i + 1) (λ e. omega arith) ∙ ap g (half-odd i)
+
+-- by the values at its task
+pub of-same : (f g f' g' : ℕ → ℕ) (x : ℕ) → f (x / 2) ≡ f' (x / 2) → g (x / 2) ≡ g' (x / 2) → ofPhase f g x ≡ ofPhase f' g' x
+unfolding ofPhase
+of-same f g f' g' x a b = rw (a, b)

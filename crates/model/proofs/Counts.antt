@@ -67,6 +67,15 @@ module _ (b : Bus) where
       let none : (0 + (D b - 1)) / D b ≡ 0 = div-eq-of-lt (omega arith) in
       rw (none, zero-div (D b), zero-mod (D b)) (omega arith)
 
+  -- ---- at most 8 slots of 64 for each word
+  pub delay-most : Settings b → (w k : ℕ) → k ≤ b .cores - 1 → delay b w k ≤ 512 * w
+  unfolding wordTime
+  delay-most s w k l =
+      let few : slots b w ≤ w = slots-least (s .words-some) w w (omega (arith, mul-le-mul-left w (s .words-some))) in
+      let waits : T b * slots b w * k ≤ 64 * w * 7 = mul-le-mul (mul-le-mul (s .time-most) few) (omega (arith, s .cores-most)) in
+      let word : T b / D b ≤ 64 = le-trans (div-le-self (T b) (D b)) (s .time-most) in
+      rw (delay-is (s .divides) w k) (omega (arith, waits, mul-le-mul-left w word))
+
   -- ---- each part at its greatest: 256 edges of 4,095 words, 7 rivals
   pub slots-most : D b ≤ 64 → (w : ℕ) → w ≤ 1048320 → slots b w ≤ 1048383
   unfolding slots

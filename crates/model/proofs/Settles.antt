@@ -6,6 +6,7 @@ use mathlib.Core.Logic.{_⊎_, inl, inr, ⊎-elim}
 use mathlib.Core.List.{List}
 use Prim.Native.Nat.{ℕ, zero, suc, _+_, _*_, _-_, _≤_, _<_, max, min}
 use native.Mathlib.Omega.{arith}
+use lib.ListN.{length}
 use Rattle.model.specs.Below.{at, sumBelow, listBelow, countBelow}
 use Rattle.model.specs.Counts.{delay}
 use Rattle.model.specs.Plan.{tasks, cores}
@@ -13,8 +14,8 @@ use Rattle.model.specs.Contention.{phasesIn, rivals}
 use Rattle.model.specs.Rules.{delayAt}
 use Rattle.model.specs.ListRule.{Candidate, placed, firstLengths, grown, rounds, settled}
 use Rattle.model.specs.declared.Bus.{Bus}
-use Rattle.model.proofs.Tests.{lt-or-ge}
-use Rattle.model.proofs.Below.{list-at, list-same, sum-le, sum-grows}
+use Rattle.model.proofs.Tests.{lt-or-ge, same-or-not}
+use Rattle.model.proofs.Below.{list-at, list-length, list-same, sum-le, sum-grows}
 use Rattle.model.proofs.Counts.{delay-rivals}
 use Rattle.model.proofs.Contention.{rivals-most}
 
@@ -113,6 +114,25 @@ module _ (c : Candidate) where
       (λ less. absurd (omega (arith, charged (more (a .counts)) (within-more (a .counts) (a .within)), less, enough)))
       (round (a .counts)))
       (a .still)
+
+  -- where none grew, more rounds change nothing: code may stop there
+  pub rounds-still : (n m : ℕ) → grown c (rounds c n) ≡ rounds c n → n ≤ m → rounds c m ≡ rounds c n
+  unfolding rounds
+  rounds-still n zero e h = ap (rounds c) (let q : 0 ≡ n = omega arith in q)
+  rounds-still n (suc m) e h =
+      same-or-not n (suc m) (λ q. ap (rounds c) (sym q)) (λ d. ap (grown c) (rounds-still n m e (omega arith)) ∙ e)
+
+  pub settled-early : (n : ℕ) → grown c (rounds c n) ≡ rounds c n → settled c ≡ rounds c n
+  unfolding settled
+  settled-early n e =
+      lt-or-ge n (count * most)
+      (λ h. rounds-still n (count * most) e (omega arith))
+      (λ h. sym (rounds-still (count * most) n settled-still h))
+
+  pub rounds-length : (n : ℕ) → length (rounds c n) ≡ count
+  unfolding rounds firstLengths grown
+  rounds-length zero = list-length _ count
+  rounds-length (suc n) = list-length _ count
 
   -- after any number of rounds each length is a delay with at most cores − 1 rivals
   pub round-length : (n x : ℕ) → x < count → (k : ℕ) × (k ≤ most) × (at (rounds c n) x ≡ delay (c .plan .bus) (at (c .words) x) k)
