@@ -7,6 +7,7 @@ pub mod BusRule
 pub mod Waits
 pub mod Field
 pub mod RoundTrip
+pub mod Stores
 pub mod Plan
 pub mod Descent
 pub mod Graph

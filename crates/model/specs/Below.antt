@@ -6,6 +6,7 @@ use Prim.Native.Nat.{ℕ, zero, suc, _+_, _≤_, _<_, min, max}
 use mathlib.Core.Bool.{Bool, true, false, cond, _&&_, _||_}
 use mathlib.Core.List.{List, [], _∷_, _++_}
 use lib.ListN.{getD}
+use lib.Seq.{sets}
 use lib.Dec.{ltb}
 
 unfoldable pub joinBelow {ℓ} : {A : Type ℓ} → (A → A → A) → A → (ℕ → A) → ℕ → A
@@ -69,3 +70,7 @@ leastBelow f p n d = joinBelow min d (λ i. cond (p i) (f i) d) n
 -- the number at index i of a list, 0 past its end
 abbrev pub at : List ℕ → ℕ → ℕ
 at l i = getD l i 0
+
+-- a list with a run of numbers stored from an index on: what is lent holds after stores
+unfoldable pub stored : List ℕ → ℕ → List ℕ → List ℕ
+stored l i a = sets l i a

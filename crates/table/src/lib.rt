@@ -3,11 +3,11 @@ ghost use mathlib.Core.Path.{_≡_};
 ghost use Prim.Native.Nat.{ℕ, _+_, _*_, _≤_, _<_};
 ghost use mathlib.Core.List.{[], _∷_, _++_};
 ghost use lib.ListN.{length, drop};
-ghost use Rattle.model.specs.Below.{at};
+ghost use Rattle.model.specs.Below.{at, stored};
 ghost use Rattle.model.specs.Field.{four};
 ghost use Rattle.model.specs.Refusals.{firstBad};
 ghost use Rattle.model.specs.Table.{ofNumbers, ofBytes, numbersAt, numbers, fourBytes, fieldBytes, bytesAt, bytes, valuesOf, valuesAt, rowAt, rowsCheck, valuesCheck};
-ghost use Rattle.table.specs.Stored.{stored};
+
 use model::Check;
 use model::Fault;
 use model::Refusal;

@@ -1,42 +1,46 @@
+-- `table::put_rows` meets its contract. One row more each turn.
+use Rattle.model.specs.Table.{ofNumbers, bytesAt}
+use Rattle.table.proofs.Rows.{field-long}
+use Rattle.model.proofs.Stores.{blocks-none, blocks-more, blocks-end}
+use Rattle.model.specs.Below.{appendBelow, stored}
+use lib.ListN.{length}
+use Prim.Native.Nat.{_≤_, _-_}
+use mathlib.Core.Path.{_≡_, refl, sym, ap, _∙_}
+use native.Mathlib.Omega.{arith}
+use borrow.Author.Needs.{needs}
 use Rattle.table.proofs.put_rows.Statement.{statement}
 use Rattle.table.proofs.put_rows.Tie as tie
-use Rattle.table.proofs.put_rows.Reads as reads
-use Rattle.table.proofs.put_rows.Lts as lts
-use Rattle.table.proofs.put_row.Reads as put-row-reads
 
 abbrev Inv-loop : tie.InvT-loop
-Inv-loop table tasks out₀ i₀ out i = ?
+Inv-loop table tasks out₀ i₀ out i = (i ≤ tasks) × (length out ≡ length out₀) × (out ≡ stored out₀ 0 (appendBelow (bytesAt (ofNumbers table)) i))
 
 abbrev μ-loop : tie.MeasureT-loop
-μ-loop table tasks out₀ i₀ out i = ?
+μ-loop table tasks out₀ i₀ out i = tasks - i
 
--- src/lib.rt:251:5
 loop-holds : tie.Need-loop-holds Inv-loop μ-loop
-loop-holds c = ?
+loop-holds c = (search needs, refl, blocks-none _ 20 (field-long _) _)
 
--- src/lib.rt:252:9
 put-row-requires : tie.Need-put-row-requires Inv-loop μ-loop
-put-row-requires c κs = ?
+put-row-requires c κs = (omega arith, omega (arith, c .before .before .loop .inv .1), c .before .before .before .before .before .pre .3 (c .before .before .loop .i) (c .before .loop-test .taken))
 
--- src/lib.rt:251:9
 add-i : tie.Need-add-i Inv-loop μ-loop
-add-i c = ?
+add-i c = search needs
 
--- src/lib.rt:251:5
 loop-less : tie.Need-loop-less Inv-loop μ-loop
-loop-less c = ?
+loop-less c = search needs
 
--- src/lib.rt:251:5
 loop-again : tie.Need-loop-again Inv-loop μ-loop
-loop-again c = ?
+loop-again c =
+    let l = c .before .before .before .before .before in
+    (search needs, c .before .before .put-row .kept .1 .1 .0 ∙ l .loop .inv .1, blocks-more _ 20 (field-long _) _ _ _ _ _ refl (l .loop .inv .2) (c .before .before .put-row .ensures))
 
--- src/lib.rt:247:1
 same-length : tie.Need-same-length Inv-loop μ-loop
-same-length c = ?
+same-length c = search needs
 
--- src/lib.rt:247:1
 returns : tie.Need-returns Inv-loop μ-loop
-returns c = ?
+returns c =
+    let l = c .before in
+    blocks-end _ 20 (field-long _) _ _ _ _ (l .loop .inv .0) (c .loop-test .left) (c .before .before .before .before .pre .2 ) (l .loop .inv .2)
 
 pub put-rows-spec : {M : Type 1} → statement M
 put-rows-spec =
