@@ -8,6 +8,7 @@ pub mod Waits
 pub mod Field
 pub mod RoundTrip
 pub mod Stores
+pub mod ReadBack
 pub mod Plan
 pub mod Descent
 pub mod Graph

@@ -1,19 +1,24 @@
 -- From the fields and the list order to the plan that was read, and what its columns hold for the callers. Assumes nothing.
 use mathlib.Core.Path.{_≡_, refl, sym, ap, subst, _∙_}
+use mathlib.Core.Bool.{false}
 use mathlib.Core.List.{List, _++_}
 use Prim.Native.Nat.{ℕ, _≤_, _<_}
 use native.Mathlib.Omega.{arith}
 use lib.ListN.{length, drop, take, replicate, length-replicate, List·getD-append}
 use lib.Seq.{take-append-seam}
 use Rattle.model.specs.Below.{at}
-use Rattle.model.specs.Refusals.{refusal, refuseIf, orElse}
+use Rattle.model.specs.Refusals.{refusal, refuseIf, orElse, gives, refuses}
 use Rattle.model.specs.Plan.{Plan, Reading, tasks, edges, source, readingOf}
-use Rattle.model.specs.Graph.{listOrder, leftOver}
+use Rattle.model.specs.Plan.{tasks as tasksOf}
+use Rattle.model.specs.Plan.{edges as edgesOf}
+use Rattle.model.specs.Graph.{listOrder, leftOver, planOf}
 use Rattle.model.specs.declared.Fault.the-variants.{Cyclic}
 use Rattle.model.specs.declared.Side.the-variants.{OfPlan}
 use Rattle.model.specs.declared.Refusal.{Refusal}
 use Rattle.model.specs.declared.Check.{Check}
 use Rattle.model.specs.declared.Check.the-variants.{Good, Bad}
+use Rattle.model.proofs.Refusals.{or-good, not-refused}
+use Rattle.model.proofs.Graph.{order-length}
 use Rattle.model.proofs.Plan.{Read, plan-valid}
 use Rattle.plan.specs.Order.{graphOf}
 use Rattle.plan.specs.Planned.{parsedBy, filled, orderBy, columnsOf, planCheck, planRead, Sized}
@@ -184,3 +189,51 @@ read-sized bytes r e =
       targets = long (readingOf bytes .plan .targets) 256;
       amounts = long (readingOf bytes .plan .amounts) 256;
     })
+
+-- the plan was refused
+pub plan-refused : (bytes : List ℕ) (r : PlanRead) {q : Refusal} → r ≡ planRead bytes → r .check ≡ Bad q → planOf bytes ≡ refuses q
+unfolding planRead planCheck planOf
+plan-refused bytes r e b = rw (sym (ap (λ (x : PlanRead). x .check) e) ∙ b)
+
+-- the plan that bytes are, and its columns
+pub record Known (bytes : List ℕ) (c : Columns) (p : Plan) : Type 0 where
+  pub is : planOf bytes ≡ gives p
+  pub read : Read bytes p
+  pub full : leftOver p ≡ false
+  pub bus : c .bus ≡ p .bus
+  pub tasks : c .tasks ≡ tasksOf p
+  pub edges : c .edges ≡ edgesOf p
+  pub costs : take (c .tasks) (c .costs) ≡ p .costs
+  pub order : take (c .tasks) (c .order) ≡ listOrder p
+  pub sources : take (c .edges) (c .sources) ≡ p .sources
+  pub targets : take (c .edges) (c .targets) ≡ p .targets
+  pub amounts : take (c .edges) (c .amounts) ≡ p .amounts
+
+known : (bytes : List ℕ) → planCheck bytes ≡ Good → Known bytes (planRead bytes .columns) (readingOf bytes .plan)
+unfolding planRead planCheck planOf columnsOf
+known bytes g =
+    let b = or-good (readingOf bytes .check) _ g in
+    let p = readingOf bytes .plan in
+    let w = plan-valid bytes (b .0) in
+    let v = w .valid .ranges in
+    let f : leftOver p ≡ false = not-refused (leftOver p) (refusal Cyclic OfPlan (length bytes)) (b .1) in
+    let q : orderBy p (readingOf bytes .check) ≡ filled (listOrder p) (replicate 64 0) = rw (b .0) in
+    record {
+      is = rw g;
+      read = w;
+      full = f;
+      bus = refl;
+      tasks = refl;
+      edges = refl;
+      costs = filled-take (p .costs) (replicate 64 0) (tasksOf p) refl (omega (arith, v .few-tasks, zeros 64));
+      order = rw q (filled-take (listOrder p) (replicate 64 0) (tasksOf p) (sym (order-length p f)) (omega (arith, order-length p f, v .few-tasks, zeros 64)));
+      sources = filled-take (p .sources) (replicate 256 0) (edgesOf p) refl (omega (arith, v .few-edges, zeros 256));
+      targets = filled-take (p .targets) (replicate 256 0) (edgesOf p) (sym (v .targets-all)) (omega (arith, v .few-edges, v .targets-all, zeros 256));
+      amounts = filled-take (p .amounts) (replicate 256 0) (edgesOf p) (sym (v .amounts-all)) (omega (arith, v .few-edges, v .amounts-all, zeros 256));
+    }
+
+pub plan-known : (bytes : List ℕ) (r : PlanRead) → r ≡ planRead bytes → r .check ≡ Good → Known bytes (r .columns) (readingOf bytes .plan)
+unfolding planRead
+plan-known bytes r e g =
+    subst (λ (x : PlanRead). Known bytes (x .columns) (readingOf bytes .plan)) (sym e)
+    (known bytes (sym (ap (λ (x : PlanRead). x .check) e) ∙ g))

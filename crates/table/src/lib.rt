@@ -5,14 +5,17 @@ ghost use mathlib.Core.List.{[], _∷_, _++_};
 ghost use lib.ListN.{length, drop};
 ghost use Rattle.model.specs.Below.{at, stored};
 ghost use Rattle.model.specs.Field.{four};
-ghost use Rattle.model.specs.Refusals.{firstBad};
+ghost use Rattle.model.specs.Refusals.{refusal, firstBad};
+ghost use Rattle.model.specs.Answers.{decodedOf, decodedOutput, writtenOf, writtenOutput};
 ghost use Rattle.model.specs.Table.{ofNumbers, ofBytes, numbersAt, numbers, fourBytes, fieldBytes, bytesAt, bytes, valuesOf, valuesAt, rowAt, rowsCheck, valuesCheck};
 
 use model::Check;
+use model::Decoded;
 use model::Fault;
 use model::Refusal;
 use model::Side;
 use model::Step;
+use model::Written;
 
 // ---- a table in working memory: these five know where a number stands
 pub fn core_at(table: &[u32], i: usize) -> u32
@@ -251,4 +254,99 @@ pub fn put_rows(table: &[u32], tasks: usize, out: &mut [u8])
     for i in 0..tasks {
         put_row(table, i, out);
     }
+}
+
+// ---- the writer's checks: another list length, then task by task its values
+fn given_check(cores: u32, table: &[u32], i: usize) -> Check
+    requires { ⌜ (i < 64) × (5 * i + 5 ≤ length (now table)) ⌝ }
+    ensures { λ r. ⌜ r ≡ valuesAt cores (ofNumbers (now (table .entry))) i ⌝ }
+{
+    let core = core_at(table, i);
+    let r = read_start(table, i);
+    let e = execute_start(table, i);
+    let w = write_start(table, i);
+    let f = end_at(table, i);
+    values_check(cores, 20 * i, core, r, e, w, f)
+}
+
+fn givens_good(cores: u32, tasks: usize, table: &[u32]) -> Check
+    requires { ⌜ (tasks ≤ 64) × (5 * tasks ≤ length (now table)) ⌝ }
+    ensures { λ r. ⌜ r ≡ firstBad (valuesAt cores (ofNumbers (now (table .entry)))) tasks ⌝ }
+{
+    for i in 0..tasks {
+        let found = given_check(cores, table, i);
+        if let Check::Bad(r) = found {
+            return Check::Bad(r);
+        }
+    }
+    Check::Good
+}
+
+fn numbers_check(cores: u32, tasks: usize, table: &[u32]) -> Check
+    requires { ⌜ tasks ≤ 64 ⌝ }
+    ensures { λ r. ⌜ r ≡ valuesCheck cores tasks (now (table .entry)) ⌝ }
+{
+    if table.len() != 5 * tasks {
+        return refused(Fault::FieldCount, 20 * tasks);
+    }
+    givens_good(cores, tasks, table)
+}
+
+// 8: a lent output that is too short.
+pub fn short_output() -> Refusal
+    ensures { λ r. ⌜ r ≡ refusal Fault.OutputShort Side.OfNeither 0 ⌝ }
+{
+    Refusal {
+        fault: Fault::OutputShort,
+        side: Side::OfNeither,
+        place: 0,
+    }
+}
+
+// The table reader: plan and table bytes to 5n numbers at the front of a lent list.
+pub fn read(plan: &[u8], table: &[u8], out: &mut [u32]) -> Decoded
+    ensures answer { λ r. ⌜ r ≡ decodedOf (now (plan .entry)) (now (table .entry)) (now (out .entry)) ⌝ }
+    ensures output { λ r. ⌜ now (out .exit) ≡ decodedOutput (now (plan .entry)) (now (table .entry)) (now (out .entry)) ⌝ }
+{
+    let read = plan::read_plan(plan);
+    let planned = read.check;
+    if let Check::Bad(r) = planned {
+        return Decoded::Refused(r);
+    }
+    let columns = read.columns;
+    let bus = columns.bus;
+    let tasks = columns.tasks;
+    let checked = table_check(bus.cores, tasks, table);
+    if let Check::Bad(r) = checked {
+        return Decoded::Refused(r);
+    }
+    if out.len() < 5 * tasks {
+        return Decoded::Refused(short_output());
+    }
+    take_rows(table, tasks, out);
+    Decoded::Numbers
+}
+
+// The writer of given table values: plan bytes and 5n numbers to 20n bytes at the front of a lent output.
+pub fn write(plan: &[u8], table: &[u32], out: &mut [u8]) -> Written
+    ensures answer { λ r. ⌜ r ≡ writtenOf (now (plan .entry)) (now (table .entry)) (now (out .entry)) ⌝ }
+    ensures output { λ r. ⌜ now (out .exit) ≡ writtenOutput (now (plan .entry)) (now (table .entry)) (now (out .entry)) ⌝ }
+{
+    let read = plan::read_plan(plan);
+    let planned = read.check;
+    if let Check::Bad(r) = planned {
+        return Written::Refused(r);
+    }
+    let columns = read.columns;
+    let bus = columns.bus;
+    let tasks = columns.tasks;
+    let checked = numbers_check(bus.cores, tasks, table);
+    if let Check::Bad(r) = checked {
+        return Written::Refused(r);
+    }
+    if out.len() < 20 * tasks {
+        return Written::Refused(short_output());
+    }
+    put_rows(table, tasks, out);
+    Written::Stored
 }
