@@ -11,8 +11,9 @@ use lib.Dec.{ltb, leb}
 use mathlib.Core.Bool.{true, false, not, _&&_}
 use Rattle.model.specs.Below.{joinBelow, at, listBelow, appendBelow}
 use Rattle.model.specs.Field.{two, four, bodyOf, tableStep}
+use Rattle.model.specs.Plan.{Plan, tasks, cores}
 use Rattle.model.specs.Refusals.{refusal, refuseIf, orElse, firstBad}
-use Rattle.model.specs.Table.{Table, ofNumbers, ofBytes, numbers, fourBytes, fieldBytes, bytesAt, bytes, nonFalling, valuesOf, valuesAt, rowBy, rowAt, rowsCheck}
+use Rattle.model.specs.Table.{Table, ofNumbers, ofBytes, numbersAt, numbers, fourBytes, fieldBytes, bytesAt, bytes, nonFalling, valuesOf, valuesAt, rowBy, rowAt, rowsCheck}
 use Rattle.model.specs.declared.Fault.the-variants.{FieldCount, CoreUnknown, MarksFalling}
 use Rattle.model.specs.declared.Side.the-variants.{OfTable}
 use Rattle.model.specs.declared.Check.the-variants.{Good, Bad}
@@ -22,7 +23,7 @@ use Rattle.model.proofs.Tests.{and-both}
 use Rattle.model.proofs.Below.{join-cong, join-suc}
 use Rattle.model.proofs.Refusals.{good-bad, or-good, not-refused, first-each}
 use Rattle.model.proofs.Field.{Whole, whole, row-body}
-use Rattle.model.proofs.RoundTrip.{SameTable, of-numbers}
+use Rattle.model.proofs.RoundTrip.{SameTable, InRange, of-numbers}
 
 -- ---- a table that passes its checks
 -- a row that is good is a whole field, with its values in range
@@ -145,3 +146,30 @@ bytes-same n t u w =
 
 pub numbers-write : (cs n : ℕ) (s : List ℕ) → ((k : ℕ) → at s k < 256) → rowsCheck cs n s ≡ Good → bytes (ofNumbers (numbers (ofBytes s) n)) n ≡ s
 numbers-write cs n s small g = sym (bytes-same n (ofBytes s) (ofNumbers (numbers (ofBytes s) n)) (of-numbers n (ofBytes s))) ∙ read-back s small cs n g
+
+-- ---- the numbers of a list of five times n numbers are the list
+numbers-take : (v : List ℕ) (n : ℕ) → 5 * n ≤ length v → numbers (ofNumbers v) n ≡ take (5 * n) v
+unfolding joinBelow numbersAt
+numbers-take v zero h = refl
+numbers-take v (suc n) h =
+    let e : 5 * suc n ≡ 5 * n + 5 = omega arith in
+    let z : 5 * n ≡ 5 * n + 0 = omega arith in
+    rw (numbers-take v n (omega arith), e, take-add (5 * n) 5 v, elements v (5 * n) 5 (omega arith))
+    (ap (λ (x : ℕ). take (5 * n) v ++ (x ∷ at v (5 * n + 1) ∷ at v (5 * n + 2) ∷ at v (5 * n + 3) ∷ at v (5 * n + 4) ∷ [])) (ap (at v) z))
+
+pub numbers-all : (v : List ℕ) (n : ℕ) → length v ≡ 5 * n → numbers (ofNumbers v) n ≡ v
+numbers-all v n l = numbers-take v n (omega arith) ∙ rw (sym l) (take-length v)
+
+-- values that pass the writer's checks are in range
+pub values-in-range : (p : Plan) (v : List ℕ) → firstBad (valuesAt (cores p) (ofNumbers v)) (tasks p) ≡ Good → InRange p (ofNumbers v) (tasks p)
+values-in-range p v g = record { core = λ i h. facts i h .0; marks = λ i h. facts i h .1 }
+  where
+    facts : (i : ℕ) → i < tasks p → (ofNumbers v .core i < cores p) × ((ofNumbers v .R i ≤ ofNumbers v .E i) × (ofNumbers v .E i ≤ ofNumbers v .W i) × (ofNumbers v .W i ≤ ofNumbers v .F i))
+    facts i h =
+        values-facts (cores p) (20 * i) (ofNumbers v .core i) (ofNumbers v .R i) (ofNumbers v .E i) (ofNumbers v .W i) (ofNumbers v .F i)
+        (first-each (valuesAt (cores p) (ofNumbers v)) (tasks p) g i h)
+
+-- and so are the numbers of a table that reads
+pub rows-in-range : (p : Plan) (s : List ℕ) → rowsCheck (cores p) (tasks p) s ≡ Good → InRange p (ofBytes s) (tasks p)
+rows-in-range p s g =
+    record { core = λ i h. rows-good (cores p) (tasks p) s g i h .core; marks = λ i h. rows-good (cores p) (tasks p) s g i h .marks }

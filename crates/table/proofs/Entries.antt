@@ -80,6 +80,9 @@ module _ (cs n : ℕ) (v : List ℕ) where
       let b = given-both g in
       eqb-true (length v) (5 * n) (not-false (eqb (length v) (5 * n)) (not-refused _ (refusal FieldCount OfTable (20 * n)) (b .0)))
 
+  pub given-values : valuesCheck cs n v ≡ Good → firstBad (valuesAt cs (ofNumbers v)) n ≡ Good
+  given-values g = given-both g .1
+
   pub given-core : valuesCheck cs n v ≡ Good → (i : ℕ) → i < n → ofNumbers v .core i < cs
   unfolding valuesOf
   given-core g i h =

@@ -1,3 +1,4 @@
 pub mod Checks
 pub mod Rows
 pub mod Entries
+pub mod Trip
