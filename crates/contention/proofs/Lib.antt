@@ -1,0 +1,3 @@
+pub mod Columns
+pub mod Rivalry
+pub mod Loads
