@@ -1,11 +1,12 @@
 // A table's bytes, both ways, and its numbers in working memory: core, R, E, W, F of each task, one after the other.
 ghost use mathlib.Core.Path.{_≡_};
-ghost use Prim.Native.Nat.{ℕ, _+_, _*_, _≤_, _<_};
+ghost use Prim.Native.Nat.{ℕ, _+_, _*_, _/_, _≤_, _<_};
 ghost use mathlib.Core.List.{[], _∷_, _++_};
 ghost use lib.ListN.{length, drop};
 ghost use Rattle.model.specs.Below.{at, stored};
 ghost use Rattle.model.specs.Field.{four};
 ghost use Rattle.model.specs.Refusals.{refusal, firstBad};
+ghost use Rattle.model.specs.Contention.{ofPhase};
 ghost use Rattle.model.specs.Answers.{decodedOf, decodedOutput, writtenOf, writtenOutput};
 ghost use Rattle.model.specs.Table.{ofNumbers, ofBytes, numbersAt, numbers, fourBytes, fieldBytes, bytesAt, bytes, valuesOf, valuesAt, rowAt, rowsCheck, valuesCheck};
 
@@ -51,6 +52,34 @@ pub fn end_at(table: &[u32], i: usize) -> u32
     ensures { λ r. ⌜ r ≡ ofNumbers (now (table .entry)) .F i ⌝ }
 {
     table[5 * i + 4]
+}
+
+// Of phase x (2i the read of task i, 2i + 1 its write): its core, and its window.
+pub fn phase_core(table: &[u32], x: usize) -> u32
+    requires { ⌜ 5 * (x / 2) + 5 ≤ length (now table) ⌝ }
+    ensures { λ r. ⌜ r ≡ ofNumbers (now (table .entry)) .core (x / 2) ⌝ }
+{
+    core_at(table, x / 2)
+}
+
+pub fn phase_start(table: &[u32], x: usize) -> u32
+    requires { ⌜ 5 * (x / 2) + 5 ≤ length (now table) ⌝ }
+    ensures { λ r. ⌜ r ≡ ofPhase (ofNumbers (now (table .entry)) .R) (ofNumbers (now (table .entry)) .W) x ⌝ }
+{
+    if x % 2 == 0 {
+        return read_start(table, x / 2);
+    }
+    write_start(table, x / 2)
+}
+
+pub fn phase_end(table: &[u32], x: usize) -> u32
+    requires { ⌜ 5 * (x / 2) + 5 ≤ length (now table) ⌝ }
+    ensures { λ r. ⌜ r ≡ ofPhase (ofNumbers (now (table .entry)) .E) (ofNumbers (now (table .entry)) .F) x ⌝ }
+{
+    if x % 2 == 0 {
+        return execute_start(table, x / 2);
+    }
+    end_at(table, x / 2)
 }
 
 // ---- checks
@@ -146,7 +175,7 @@ fn rows_good(cores: u32, tasks: usize, s: &[u8]) -> Check
 }
 
 // All fields in order, then 9 for bytes left over.
-fn table_check(cores: u32, tasks: usize, s: &[u8]) -> Check
+pub fn table_check(cores: u32, tasks: usize, s: &[u8]) -> Check
     requires { ⌜ tasks ≤ 64 ⌝ }
     ensures { λ r. ⌜ r ≡ rowsCheck cores tasks (now (s .entry)) ⌝ }
 {
@@ -189,7 +218,7 @@ fn take_row(s: &[u8], i: usize, out: &mut [u32])
 }
 
 // The numbers of all fields, at the front of a list.
-fn take_rows(s: &[u8], tasks: usize, out: &mut [u32])
+pub fn take_rows(s: &[u8], tasks: usize, out: &mut [u32])
     requires { ⌜ (tasks ≤ 64) × (20 * tasks ≤ length (now s)) × (5 * tasks ≤ length (now out)) ⌝ }
     ensures { λ _. ⌜ now (out .exit) ≡ numbers (ofBytes (now (s .entry))) tasks ++ drop (5 * tasks) (now (out .entry)) ⌝ }
 {
