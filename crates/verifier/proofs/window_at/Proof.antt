@@ -1,0 +1,58 @@
+-- `verifier::window_at` meets its contract. Window and delay are read, then judged.
+use native.Mathlib.Omega.{arith}
+use mathlib.Core.Path.{_≡_, refl, sym, ap, _∙_}
+use Rattle.verifier.proofs.Checks.{window-is}
+use borrow.Author.Needs.{needs}
+use Rattle.verifier.proofs.window_at.Statement.{statement}
+use Rattle.verifier.proofs.window_at.Tie as tie
+
+phase-delay-requires : tie.Need-phase-delay-requires
+phase-delay-requires c κs = search needs
+
+mul-wide : tie.Need-mul-wide
+mul-wide c = search needs
+
+shared-slice-read-wide : tie.Need-shared-slice-read-wide
+shared-slice-read-wide c = search needs
+
+wide-requires : tie.Need-wide-requires
+wide-requires c κs = search needs
+
+wide-requires-2 : tie.Need-wide-requires-2
+wide-requires-2 c κs = search needs
+
+add-due : tie.Need-add-due
+add-due c = search needs
+
+mul-wide-2 : tie.Need-mul-wide-2
+mul-wide-2 c = search needs
+
+shared-slice-read-wide-2 : tie.Need-shared-slice-read-wide-2
+shared-slice-read-wide-2 c = search needs
+
+wide-requires-3 : tie.Need-wide-requires-3
+wide-requires-3 c κs = search needs
+
+refuse-if-requires : tie.Need-refuse-if-requires
+refuse-if-requires c κs = search needs
+
+returns : tie.Need-returns
+returns c =
+    let s = c .before .before .before .before .before .before .before .before .before .before .before in
+    window-is (s .args .bus) _ (s .args .x) _ _ _ _ (c .before .before .before .before .wide .ensures .0) (c .before .wide3 .ensures .0) (c .before .before .before .wide2 .ensures .0 ∙ c .before .before .before .before .before .before .phase-delay .ensures) (c .refuse-if .ensures)
+
+pub window-at-spec : {M : Type 1} → statement M
+window-at-spec =
+    tie.close
+    (tie.spec
+    phase-delay-requires
+    mul-wide
+    shared-slice-read-wide
+    wide-requires
+    wide-requires-2
+    add-due
+    mul-wide-2
+    shared-slice-read-wide-2
+    wide-requires-3
+    refuse-if-requires
+    returns)

@@ -1,0 +1,204 @@
+// The verifier: the windows of a table judged by every rule, on a plan's columns and a table's numbers.
+ghost use mathlib.Core.Path.{_≡_};
+ghost use mathlib.Core.List.{_++_};
+ghost use Prim.Native.Nat.{ℕ, _+_, _*_, _/_, _≤_, _<_, min, max};
+ghost use lib.ListN.{length, drop};
+ghost use Rattle.model.specs.Below.{at, listBelow};
+ghost use Rattle.model.specs.Counts.{mostWords, Settings};
+ghost use Rattle.model.specs.Plan.{Ranges};
+ghost use Rattle.model.specs.Refusals.{refusal, refuseIf, firstBad};
+ghost use Rattle.model.specs.Table.{ofNumbers};
+ghost use Rattle.model.specs.Contention.{ofPhase, phaseWords};
+ghost use Rattle.model.specs.Rules.{executeAt, edgeAt, crossing, crossAt, windowAt, makespan as greatestEnd};
+ghost use Rattle.contention.specs.Columns.{phasesBy, Sized};
+ghost use Rattle.verifier.specs.Columns.{tasksBy, edgesOf, planBy};
+
+use model::Bus;
+use model::Check;
+use model::Fault;
+use model::Refusal;
+use model::Side;
+
+fn refuse_if(bad: bool, fault: Fault, task: usize) -> Check
+    requires { ⌜ task < 64 ⌝ }
+    ensures { λ r. ⌜ r ≡ refuseIf bad (record { fault = fault; side = Side.OfTable; place = 20 * task }) ⌝ }
+{
+    if bad {
+        return Check::Bad(Refusal {
+            fault,
+            side: Side::OfTable,
+            place: 20 * task,
+        });
+    }
+    Check::Good
+}
+
+fn wide(x: u32) -> u64
+    ensures { λ r. ⌜ (r ≡ x) × (r < 4294967296) ⌝ }
+{
+    x as u64
+}
+
+fn long(x: u16) -> u64
+    ensures { λ r. ⌜ (r ≡ x) × (r < 65536) ⌝ }
+{
+    x as u64
+}
+
+fn index(x: u8) -> usize
+    ensures { λ r. ⌜ r ≡ x ⌝ }
+{
+    x as usize
+}
+
+// 12: task i's execute window lasts at least its execute time.
+fn execute_at(costs: &[u16], table: &[u32], i: usize) -> Check
+    requires { ⌜ (i < 64) × (i < length (now costs)) × (5 * i + 5 ≤ length (now table)) ⌝ }
+    ensures { λ r. ⌜ r ≡ executeAt (tasksBy (now (costs .entry))) (ofNumbers (now (table .entry))) i ⌝ }
+{
+    let starts = wide(table::execute_start(table, i));
+    let ends = wide(table::write_start(table, i));
+    let cost = long(costs[i]);
+    refuse_if(ends < starts + cost, Fault::ExecuteShort, i)
+}
+
+fn executes(costs: &[u16], table: &[u32]) -> Check
+    requires { ⌜ (length (now costs) ≤ 64) × (5 * length (now costs) ≤ length (now table)) ⌝ }
+    ensures { λ r. ⌜ r ≡ firstBad (executeAt (tasksBy (now (costs .entry))) (ofNumbers (now (table .entry)))) (length (now (costs .entry))) ⌝ }
+{
+    for i in 0..costs.len() {
+        let found = execute_at(costs, table, i);
+        if let Check::Bad(r) = found {
+            return Check::Bad(r);
+        }
+    }
+    Check::Good
+}
+
+// 13: the target of edge e reads no earlier than its source has ended.
+fn edge_at(sources: &[u8], targets: &[u8], table: &[u32], e: usize) -> Check
+    requires { ⌜ (e < length (now sources)) × (e < length (now targets)) × (at (now targets) e < 64) × (5 * at (now sources) e + 5 ≤ length (now table)) × (5 * at (now targets) e + 5 ≤ length (now table)) ⌝ }
+    ensures { λ r. ⌜ r ≡ edgeAt (edgesOf (now (sources .entry)) (now (targets .entry))) (ofNumbers (now (table .entry))) e ⌝ }
+{
+    let source = index(sources[e]);
+    let target = index(targets[e]);
+    let starts = table::read_start(table, target);
+    let ended = table::end_at(table, source);
+    refuse_if(starts < ended, Fault::ReadEarly, target)
+}
+
+fn edges(sources: &[u8], targets: &[u8], table: &[u32]) -> Check
+    requires { ⌜ (length (now sources) ≤ length (now targets)) × ((e : ℕ) → e < length (now sources) → (at (now targets) e < 64) × (5 * at (now sources) e + 5 ≤ length (now table)) × (5 * at (now targets) e + 5 ≤ length (now table))) ⌝ }
+    ensures { λ r. ⌜ r ≡ firstBad (edgeAt (edgesOf (now (sources .entry)) (now (targets .entry))) (ofNumbers (now (table .entry)))) (length (now (sources .entry))) ⌝ }
+{
+    for e in 0..sources.len() {
+        let found = edge_at(sources, targets, table, e);
+        if let Check::Bad(r) = found {
+            return Check::Bad(r);
+        }
+    }
+    Check::Good
+}
+
+fn later(x: u32, y: u32) -> u32
+    ensures { λ r. ⌜ r ≡ max x y ⌝ }
+{
+    if x < y { y } else { x }
+}
+
+fn earlier(x: u32, y: u32) -> u32
+    ensures { λ r. ⌜ r ≡ min x y ⌝ }
+{
+    if x < y { x } else { y }
+}
+
+// 14: a span on a core and task j's share no time of that core.
+fn cross_at(core: u32, r: u32, f: u32, table: &[u32], j: usize) -> Check
+    requires { ⌜ (j < 64) × (5 * j + 5 ≤ length (now table)) ⌝ }
+    ensures { λ x. ⌜ x ≡ refuseIf (crossing core r f (ofNumbers (now (table .entry)) .core j) (ofNumbers (now (table .entry)) .R j) (ofNumbers (now (table .entry)) .F j)) (refusal Fault.SpansCross Side.OfTable (20 * j)) ⌝ }
+{
+    let same = core == table::core_at(table, j);
+    let from = later(r, table::read_start(table, j));
+    let to = earlier(f, table::end_at(table, j));
+    refuse_if(same & (from < to), Fault::SpansCross, j)
+}
+
+// Task i's span and those of all higher tasks.
+fn cross_from(table: &[u32], tasks: usize, i: usize) -> Check
+    requires { ⌜ (tasks ≤ 64) × (5 * tasks ≤ length (now table)) × (i < tasks) ⌝ }
+    ensures { λ x. ⌜ x ≡ firstBad (crossAt (ofNumbers (now (table .entry))) i) tasks ⌝ }
+{
+    let core = table::core_at(table, i);
+    let r = table::read_start(table, i);
+    let f = table::end_at(table, i);
+    for j in i + 1..tasks {
+        let found = cross_at(core, r, f, table, j);
+        if let Check::Bad(x) = found {
+            return Check::Bad(x);
+        }
+    }
+    Check::Good
+}
+
+fn crosses(table: &[u32], tasks: usize) -> Check
+    requires { ⌜ (tasks ≤ 64) × (5 * tasks ≤ length (now table)) ⌝ }
+    ensures { λ x. ⌜ x ≡ firstBad (λ i. firstBad (crossAt (ofNumbers (now (table .entry))) i) tasks) tasks ⌝ }
+{
+    for i in 0..tasks {
+        let found = cross_from(table, tasks, i);
+        if let Check::Bad(r) = found {
+            return Check::Bad(r);
+        }
+    }
+    Check::Good
+}
+
+// 15: the window of phase x lasts at least its delay.
+fn window_at(
+    bus: Bus,
+    core: &[u32],
+    start: &[u32],
+    end: &[u32],
+    words: &[u32],
+    count: usize,
+    x: usize,
+) -> Check
+    requires { ⌜ Settings bus × Sized (now core) (now start) (now end) (now words) count × (x < count) × (at (now words) x ≤ mostWords) ⌝ }
+    ensures { λ r. ⌜ r ≡ windowAt bus (phasesBy (now (core .entry)) (now (start .entry)) (now (end .entry)) (now (words .entry)) count) x ⌝ }
+{
+    let delay = contention::phase_delay(bus, core, start, end, words, count, x);
+    let due = wide(start[x]) + wide(delay.0);
+    refuse_if(wide(end[x]) < due, Fault::WindowShort, x / 2)
+}
+
+fn windows(
+    bus: Bus,
+    core: &[u32],
+    start: &[u32],
+    end: &[u32],
+    words: &[u32],
+    count: usize,
+) -> Check
+    requires { ⌜ Settings bus × Sized (now core) (now start) (now end) (now words) count × ((x : ℕ) → x < count → at (now words) x ≤ mostWords) ⌝ }
+    ensures { λ r. ⌜ r ≡ firstBad (windowAt bus (phasesBy (now (core .entry)) (now (start .entry)) (now (end .entry)) (now (words .entry)) count)) count ⌝ }
+{
+    for x in 0..count {
+        let found = window_at(bus, core, start, end, words, count, x);
+        if let Check::Bad(r) = found {
+            return Check::Bad(r);
+        }
+    }
+    Check::Good
+}
+
+// The greatest end.
+fn makespan(table: &[u32], tasks: usize) -> u32
+    requires { ⌜ (tasks ≤ 64) × (5 * tasks ≤ length (now table)) ⌝ }
+    ensures { λ r. ⌜ r ≡ greatestEnd tasks (ofNumbers (now (table .entry))) ⌝ }
+{
+    let mut most: u32 = 0;
+    for i in 0..tasks {
+        most = later(most, table::end_at(table, i));
+    }
+    most
+}
