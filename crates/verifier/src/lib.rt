@@ -11,7 +11,7 @@ ghost use Rattle.model.specs.Table.{ofNumbers};
 ghost use Rattle.model.specs.Contention.{ofPhase, phaseWords};
 ghost use Rattle.model.specs.Rules.{executeAt, edgeAt, crossing, crossAt, windowAt, makespan as greatestEnd};
 ghost use Rattle.contention.specs.Columns.{phasesBy, Sized};
-ghost use Rattle.verifier.specs.Columns.{tasksBy, edgesOf, planBy};
+ghost use Rattle.verifier.specs.Columns.{tasksBy, edgesOf, planBy, coresOf, startsOf, endsOf};
 
 use model::Bus;
 use model::Check;
@@ -201,4 +201,32 @@ fn makespan(table: &[u32], tasks: usize) -> u32
         most = later(most, table::end_at(table, i));
     }
     most
+}
+
+// The core of each task.
+fn fill_cores(table: &[u32], tasks: usize, cores: &mut [u32])
+    requires { ⌜ (tasks ≤ 64) × (5 * tasks ≤ length (now table)) × (tasks ≤ length (now cores)) ⌝ }
+    ensures { λ _. ⌜ now (cores .exit) ≡ listBelow (ofNumbers (now (table .entry)) .core) tasks ++ drop tasks (now (cores .entry)) ⌝ }
+{
+    for i in 0..tasks {
+        cores[i] = table::core_at(table, i);
+    }
+}
+
+// Core and window of each phase.
+fn fill_windows(
+    table: &[u32],
+    tasks: usize,
+    core: &mut [u32],
+    start: &mut [u32],
+    end: &mut [u32],
+)
+    requires { ⌜ (tasks ≤ 64) × (5 * tasks ≤ length (now table)) × (128 ≤ length (now core)) × (128 ≤ length (now start)) × (128 ≤ length (now end)) ⌝ }
+    ensures { λ _. ⌜ (now (core .exit) ≡ coresOf tasks (ofNumbers (now (table .entry))) ++ drop (2 * tasks) (now (core .entry))) × (now (start .exit) ≡ startsOf tasks (ofNumbers (now (table .entry))) ++ drop (2 * tasks) (now (start .entry))) × (now (end .exit) ≡ endsOf tasks (ofNumbers (now (table .entry))) ++ drop (2 * tasks) (now (end .entry))) ⌝ }
+{
+    for x in 0..2 * tasks {
+        core[x] = table::phase_core(table, x);
+        start[x] = table::phase_start(table, x);
+        end[x] = table::phase_end(table, x);
+    }
 }
