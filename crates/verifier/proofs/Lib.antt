@@ -1,2 +1,4 @@
 pub mod Checks
 pub mod Fills
+pub mod Ruling
+pub mod Phases

@@ -1,7 +1,9 @@
 -- A plan as the columns that were read of it, whole or as far as a rule needs it. Assumes nothing.
-use Prim.Native.Nat.{ℕ, _*_, _/_}
+use mathlib.Core.Path.{_≡_}
+use Prim.Native.Nat.{ℕ, _*_, _/_, _<_}
 use mathlib.Core.List.{List}
-use Rattle.model.specs.Below.{listBelow}
+use lib.ListN.{length}
+use Rattle.model.specs.Below.{at, listBelow}
 use Rattle.model.specs.Plan.{Plan, noPlan}
 use Rattle.model.specs.Table.{Table}
 use Rattle.model.specs.Contention.{ofPhase}
@@ -18,6 +20,16 @@ tasksBy costs = planBy (noPlan .bus) costs (noPlan .sources) (noPlan .targets) (
 -- of its edges, where they start and end
 abbrev pub edgesOf : List ℕ → List ℕ → Plan
 edgesOf sources targets = planBy (noPlan .bus) (noPlan .costs) sources targets (noPlan .amounts)
+
+-- without bus and words
+abbrev pub shapeBy : List ℕ → List ℕ → List ℕ → Plan
+shapeBy costs sources targets = planBy (noPlan .bus) costs sources targets (noPlan .amounts)
+
+-- edges in columns, between tasks below n
+pub record Between (n : ℕ) (sources targets : List ℕ) : Type 0 where
+  pub targets-all : length targets ≡ length sources
+  pub sources-known : (e : ℕ) → e < length sources → at sources e < n
+  pub targets-known : (e : ℕ) → e < length sources → at targets e < n
 
 -- the phases of n tasks in columns: cores, starts and ends
 abbrev pub coresOf : ℕ → Table → List ℕ

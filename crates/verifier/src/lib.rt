@@ -10,8 +10,9 @@ ghost use Rattle.model.specs.Refusals.{refusal, refuseIf, firstBad};
 ghost use Rattle.model.specs.Table.{ofNumbers};
 ghost use Rattle.model.specs.Contention.{ofPhase, phaseWords};
 ghost use Rattle.model.specs.Rules.{executeAt, edgeAt, crossing, crossAt, windowAt, makespan as greatestEnd};
-ghost use Rattle.contention.specs.Columns.{phasesBy, Sized};
-ghost use Rattle.verifier.specs.Columns.{tasksBy, edgesOf, planBy, coresOf, startsOf, endsOf};
+ghost use Rattle.contention.specs.Columns.{phasesBy, Sized, edgesBy, Edges};
+ghost use Rattle.verifier.specs.Columns.{tasksBy, edgesOf, shapeBy, planBy, Between, coresOf, startsOf, endsOf};
+ghost use Rattle.verifier.specs.Judging.{spansCheck};
 
 use model::Bus;
 use model::Check;
@@ -229,4 +230,41 @@ fn fill_windows(
         start[x] = table::phase_start(table, x);
         end[x] = table::phase_end(table, x);
     }
+}
+
+// The phases of all tasks: core, window and words.
+fn fill_phases(
+    sources: &[u8],
+    targets: &[u8],
+    amounts: &[u16],
+    tasks: usize,
+    table: &[u32],
+    core: &mut [u32],
+    start: &mut [u32],
+    end: &mut [u32],
+    words: &mut [u32],
+)
+    requires { ⌜ (tasks ≤ 64) × Edges tasks (now sources) (now targets) (now amounts) × (5 * tasks ≤ length (now table)) × (128 ≤ length (now core)) × (128 ≤ length (now start)) × (128 ≤ length (now end)) × (128 ≤ length (now words)) ⌝ }
+    ensures { λ _. ⌜ (now (core .exit) ≡ coresOf tasks (ofNumbers (now (table .entry))) ++ drop (2 * tasks) (now (core .entry))) × (now (start .exit) ≡ startsOf tasks (ofNumbers (now (table .entry))) ++ drop (2 * tasks) (now (start .entry))) × (now (end .exit) ≡ endsOf tasks (ofNumbers (now (table .entry))) ++ drop (2 * tasks) (now (end .entry))) × (now (words .exit) ≡ phaseWords (edgesBy tasks (now (sources .entry)) (now (targets .entry)) (now (amounts .entry))) (ofNumbers (now (table .entry)) .core) ++ drop (2 * tasks) (now (words .entry))) ⌝ }
+{
+    let mut cores = [0u32; 64];
+    fill_cores(table, tasks, &mut cores);
+    contention::phase_words(sources, targets, amounts, &cores[..tasks], words);
+    fill_windows(table, tasks, core, start, end);
+}
+
+// 12, 13, 14: execute windows, edges and spans.
+fn spans(costs: &[u16], sources: &[u8], targets: &[u8], table: &[u32]) -> Check
+    requires { ⌜ (length (now costs) ≤ 64) × Between (length (now costs)) (now sources) (now targets) × (5 * length (now costs) ≤ length (now table)) ⌝ }
+    ensures { λ r. ⌜ r ≡ spansCheck (shapeBy (now (costs .entry)) (now (sources .entry)) (now (targets .entry))) (ofNumbers (now (table .entry))) ⌝ }
+{
+    let executed = executes(costs, table);
+    if let Check::Bad(r) = executed {
+        return Check::Bad(r);
+    }
+    let followed = edges(sources, targets, table);
+    if let Check::Bad(r) = followed {
+        return Check::Bad(r);
+    }
+    crosses(table, costs.len())
 }
