@@ -5,20 +5,21 @@ ghost use Prim.Native.Nat.{ℕ, _+_, _*_, _/_, _≤_, _<_, min, max};
 ghost use lib.ListN.{length, drop};
 ghost use Rattle.model.specs.Below.{at, listBelow};
 ghost use Rattle.model.specs.Counts.{mostWords, Settings};
-ghost use Rattle.model.specs.Plan.{Ranges};
+ghost use Rattle.model.specs.Plan.{Valid};
 ghost use Rattle.model.specs.Refusals.{refusal, refuseIf, firstBad};
 ghost use Rattle.model.specs.Table.{ofNumbers};
 ghost use Rattle.model.specs.Contention.{ofPhase, phaseWords};
 ghost use Rattle.model.specs.Rules.{executeAt, edgeAt, crossing, crossAt, windowAt, makespan as greatestEnd};
 ghost use Rattle.contention.specs.Columns.{phasesBy, Sized, edgesBy, Edges};
 ghost use Rattle.verifier.specs.Columns.{tasksBy, edgesOf, shapeBy, planBy, Between, coresOf, startsOf, endsOf};
-ghost use Rattle.verifier.specs.Judging.{spansCheck};
+ghost use Rattle.verifier.specs.Judging.{spansCheck, ruled};
 
 use model::Bus;
 use model::Check;
 use model::Fault;
 use model::Refusal;
 use model::Side;
+use model::Time;
 
 fn refuse_if(bad: bool, fault: Fault, task: usize) -> Check
     requires { ⌜ task < 64 ⌝ }
@@ -267,4 +268,48 @@ fn spans(costs: &[u16], sources: &[u8], targets: &[u8], table: &[u32]) -> Check
         return Check::Bad(r);
     }
     crosses(table, costs.len())
+}
+
+// What the rules say of a table: its makespan, with what of the plan its phases are read by, or the first refusal.
+pub enum Judgement {
+    Obeys {
+        bus: Bus,
+        tasks: usize,
+        makespan: Time,
+    },
+    Refused(Refusal),
+}
+
+// All rules, on the columns of a plan and the numbers of a table, and its phases.
+fn rules(
+    bus: Bus,
+    costs: &[u16],
+    sources: &[u8],
+    targets: &[u8],
+    amounts: &[u16],
+    table: &[u32],
+    core: &mut [u32],
+    start: &mut [u32],
+    end: &mut [u32],
+    words: &mut [u32],
+) -> Judgement
+    requires { ⌜ Valid (planBy bus (now costs) (now sources) (now targets) (now amounts)) × (5 * length (now costs) ≤ length (now table)) × (128 ≤ length (now core)) × (128 ≤ length (now start)) × (128 ≤ length (now end)) × (128 ≤ length (now words)) ⌝ }
+    ensures answer { λ r. ⌜ r ≡ ruled (planBy bus (now (costs .entry)) (now (sources .entry)) (now (targets .entry)) (now (amounts .entry))) (ofNumbers (now (table .entry))) ⌝ }
+    ensures phases { λ r. ⌜ (now (core .exit) ≡ coresOf (length (now (costs .entry))) (ofNumbers (now (table .entry))) ++ drop (2 * length (now (costs .entry))) (now (core .entry))) × (now (start .exit) ≡ startsOf (length (now (costs .entry))) (ofNumbers (now (table .entry))) ++ drop (2 * length (now (costs .entry))) (now (start .entry))) × (now (end .exit) ≡ endsOf (length (now (costs .entry))) (ofNumbers (now (table .entry))) ++ drop (2 * length (now (costs .entry))) (now (end .entry))) × (now (words .exit) ≡ phaseWords (planBy bus (now (costs .entry)) (now (sources .entry)) (now (targets .entry)) (now (amounts .entry))) (ofNumbers (now (table .entry)) .core) ++ drop (2 * length (now (costs .entry))) (now (words .entry))) ⌝ }
+{
+    let tasks = costs.len();
+    fill_phases(sources, targets, amounts, tasks, table, core, start, end, words);
+    let apart = spans(costs, sources, targets, table);
+    if let Check::Bad(r) = apart {
+        return Judgement::Refused(r);
+    }
+    let lasting = windows(bus, core, start, end, words, 2 * tasks);
+    if let Check::Bad(r) = lasting {
+        return Judgement::Refused(r);
+    }
+    Judgement::Obeys {
+        bus,
+        tasks,
+        makespan: Time(makespan(table, tasks)),
+    }
 }
