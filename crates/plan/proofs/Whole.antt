@@ -237,3 +237,37 @@ unfolding planRead
 plan-known bytes r e g =
     subst (λ (x : PlanRead). Known bytes (x .columns) (readingOf bytes .plan)) (sym e)
     (known bytes (sym (ap (λ (x : PlanRead). x .check) e) ∙ g))
+
+-- its tasks and edges fit their columns, so each column's front can be lent
+pub record Fronts (c : Columns) : Type 0 where
+  pub costs : c .tasks ≤ length (c .costs)
+  pub order : c .tasks ≤ length (c .order)
+  pub sources : c .edges ≤ length (c .sources)
+  pub targets : c .edges ≤ length (c .targets)
+  pub amounts : c .edges ≤ length (c .amounts)
+
+pub plan-fronts : (bytes : List ℕ) (r : PlanRead) → r ≡ planRead bytes → r .check ≡ Good → Fronts (r .columns)
+plan-fronts bytes r e g =
+    let s = read-sized bytes r e in
+    let k = plan-known bytes r e g in
+    let n : r .columns .tasks ≤ 64 = omega (arith, k .tasks, k .read .valid .ranges .few-tasks) in
+    let m : r .columns .edges ≤ 256 = omega (arith, k .edges, k .read .valid .ranges .few-edges) in
+    record {
+      costs = omega (arith, s .costs);
+      order = omega (arith, s .order);
+      sources = omega (arith, s .sources);
+      targets = omega (arith, s .targets);
+      amounts = omega (arith, s .amounts);
+    }
+
+-- the fronts are the plan
+pub fronts-plan : (bytes : List ℕ) (c : Columns) (p : Plan) → Known bytes c p
+    → (record {
+      bus = c .bus;
+      costs = take (c .tasks) (c .costs);
+      sources = take (c .edges) (c .sources);
+      targets = take (c .edges) (c .targets);
+      amounts = take (c .edges) (c .amounts);
+    }) ≡ p
+fronts-plan bytes c p k =
+    λ i. record { bus = k .bus i; costs = k .costs i; sources = k .sources i; targets = k .targets i; amounts = k .amounts i }

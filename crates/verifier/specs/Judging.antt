@@ -1,10 +1,16 @@
 -- The judging of a plan's and a table's bytes, as far as the verifier and the bus run share it. Assumes nothing.
-use Rattle.model.specs.Refusals.{orElse, firstBad}
+use mathlib.Core.List.{List}
+use Prim.Native.Nat.{ℕ}
+use Rattle.model.specs.Refusals.{orElse, firstBad, Outcome, gives, refuses, andThen}
 use Rattle.model.specs.Plan.{Plan, tasks, edges}
-use Rattle.model.specs.Table.{Table}
+use Rattle.model.specs.Graph.{planOf}
+use Rattle.model.specs.Table.{Table, ofNumbers, tableOf}
+use Rattle.model.specs.Contention.{phaseWords}
 use Rattle.model.specs.Rules.{executeAt, edgeAt, crossFrom, rulesCheck, makespan}
+use Rattle.model.specs.Answers.{onto, Judged, judged}
 use Rattle.model.specs.declared.Check.{Check}
 use Rattle.model.specs.declared.Check.the-variants.{Good, Bad}
+use Rattle.verifier.specs.Columns.{coresOf, startsOf, endsOf}
 use Rattle.verifier.specs.declared.Judgement.{Judgement}
 
 -- the rules that need no phases: 12, 13, 14
@@ -24,3 +30,27 @@ ruledBy p t (Bad r) = Judgement.Refused r
 
 unfoldable pub ruled : Plan → Table → Judgement
 ruled p t = ruledBy p t (rulesCheck p t)
+
+-- the same from the bytes
+abbrev pub judgementBy : Outcome Judged → Judgement
+judgementBy (gives j) = obeys (j .plan) (ofNumbers (j .table))
+judgementBy (refuses r) = Judgement.Refused r
+
+unfoldable pub judgementOf : List ℕ → List ℕ → Judgement
+judgementOf p s = judgementBy (judged p s)
+
+-- ---- the phases, in columns lent for them: of bytes that read as a plan and a table
+abbrev pub phaseCores : Plan → Table → List ℕ
+phaseCores p t = coresOf (tasks p) t
+
+abbrev pub phaseStarts : Plan → Table → List ℕ
+phaseStarts p t = startsOf (tasks p) t
+
+abbrev pub phaseEnds : Plan → Table → List ℕ
+phaseEnds p t = endsOf (tasks p) t
+
+abbrev pub phaseLoads : Plan → Table → List ℕ
+phaseLoads p t = phaseWords p (t .core)
+
+unfoldable pub columnOf : (Plan → Table → List ℕ) → List ℕ → List ℕ → List ℕ → List ℕ
+columnOf f p s out = onto out (andThen (planOf p) (λ plan. andThen (tableOf plan s) (λ v. gives (f plan (ofNumbers v)))))

@@ -12,7 +12,7 @@ ghost use Rattle.model.specs.Contention.{ofPhase, phaseWords};
 ghost use Rattle.model.specs.Rules.{executeAt, edgeAt, crossing, crossAt, windowAt, makespan as greatestEnd};
 ghost use Rattle.contention.specs.Columns.{phasesBy, Sized, edgesBy, Edges};
 ghost use Rattle.verifier.specs.Columns.{tasksBy, edgesOf, shapeBy, planBy, Between, coresOf, startsOf, endsOf};
-ghost use Rattle.verifier.specs.Judging.{spansCheck, ruled};
+ghost use Rattle.verifier.specs.Judging.{spansCheck, ruled, judgementOf, columnOf, phaseCores, phaseStarts, phaseEnds, phaseLoads};
 
 use model::Bus;
 use model::Check;
@@ -312,4 +312,50 @@ fn rules(
         tasks,
         makespan: Time(makespan(table, tasks)),
     }
+}
+
+// A table's bytes judged by a plan's. The phases of a table that reads are left in the lent columns.
+pub fn judge(
+    plan: &[u8],
+    table: &[u8],
+    core: &mut [u32],
+    start: &mut [u32],
+    end: &mut [u32],
+    words: &mut [u32],
+) -> Judgement
+    requires { ⌜ (128 ≤ length (now core)) × (128 ≤ length (now start)) × (128 ≤ length (now end)) × (128 ≤ length (now words)) ⌝ }
+    ensures answer { λ r. ⌜ r ≡ judgementOf (now (plan .entry)) (now (table .entry)) ⌝ }
+    ensures phases { λ r. ⌜ (now (core .exit) ≡ columnOf phaseCores (now (plan .entry)) (now (table .entry)) (now (core .entry))) × (now (start .exit) ≡ columnOf phaseStarts (now (plan .entry)) (now (table .entry)) (now (start .entry))) × (now (end .exit) ≡ columnOf phaseEnds (now (plan .entry)) (now (table .entry)) (now (end .entry))) × (now (words .exit) ≡ columnOf phaseLoads (now (plan .entry)) (now (table .entry)) (now (words .entry))) ⌝ }
+{
+    let read = plan::read_plan(plan);
+    let planned = read.check;
+    if let Check::Bad(r) = planned {
+        return Judgement::Refused(r);
+    }
+    let columns = read.columns;
+    let bus = columns.bus;
+    let tasks = columns.tasks;
+    let edges = columns.edges;
+    let checked = table::table_check(bus.cores, tasks, table);
+    if let Check::Bad(r) = checked {
+        return Judgement::Refused(r);
+    }
+    let mut numbers = [0u32; 320];
+    table::take_rows(table, tasks, &mut numbers);
+    let costs = columns.costs;
+    let sources = columns.sources;
+    let targets = columns.targets;
+    let amounts = columns.amounts;
+    rules(
+        bus,
+        &costs[..tasks],
+        &sources[..edges],
+        &targets[..edges],
+        &amounts[..edges],
+        &numbers[..5 * tasks],
+        core,
+        start,
+        end,
+        words,
+    )
 }
