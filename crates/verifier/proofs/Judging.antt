@@ -5,16 +5,17 @@ use Prim.Native.Nat.{ℕ, _*_, _≤_, _<_}
 use native.Mathlib.Omega.{arith}
 use lib.ListN.{length, take, drop, length-append}
 use lib.Seq.{take-append-seam}
-use Rattle.model.specs.Refusals.{gives, refuses, passing}
+use Rattle.model.specs.Refusals.{Outcome, gives, refuses, passing}
 use Rattle.model.specs.Plan.{Plan, Valid, tasks, cores}
 use Rattle.model.specs.Graph.{planOf}
 use Rattle.model.specs.Table.{Table, ofNumbers, ofBytes, numbersAt, numbers, rowsCheck, tableOf}
 use Rattle.model.specs.Contention.{phaseWords}
 use Rattle.model.specs.Rules.{rulesCheck, makespan}
-use Rattle.model.specs.Answers.{judged}
+use Rattle.model.specs.Answers.{Judged, judged, verdictBy, verdictOf}
 use Rattle.model.specs.declared.Refusal.{Refusal}
 use Rattle.model.specs.declared.Check.{Check}
 use Rattle.model.specs.declared.Check.the-variants.{Good, Bad}
+use Rattle.model.specs.declared.Verdict.{Verdict}
 use Rattle.model.proofs.Below.{list-length}
 use Rattle.model.proofs.Contention.{phase-words-length}
 use Rattle.model.proofs.RoundTrip.{blocks-length}
@@ -90,3 +91,16 @@ module _ (plan s core start end words : List ℕ) where
               column-all phaseLoads words words' (phase-words-length p (ofNumbers v .core)) (rw (eq, ew) at (all .1 .3)),
             ),
           )
+
+-- ---- from a judgement to a verdict
+abbrev verdict : Judgement → Verdict
+verdict (Judgement.Obeys bus n m) = Verdict.Accepted m
+verdict (Judgement.Refused r) = Verdict.Refused r
+
+verdict-by : (o : Outcome Judged) → verdict (judgementBy o) ≡ verdictBy o
+verdict-by (gives j) = refl
+verdict-by (refuses r) = refl
+
+pub verdict-is : (plan s : List ℕ) (j k : Judgement) → j ≡ judgementOf plan s → j ≡ k → verdict k ≡ verdictOf plan s
+unfolding judgementOf verdictOf
+verdict-is plan s j k e q = ap verdict (sym q ∙ e) ∙ verdict-by (judged plan s)

@@ -10,6 +10,7 @@ ghost use Rattle.model.specs.Refusals.{refusal, refuseIf, firstBad};
 ghost use Rattle.model.specs.Table.{ofNumbers};
 ghost use Rattle.model.specs.Contention.{ofPhase, phaseWords};
 ghost use Rattle.model.specs.Rules.{executeAt, edgeAt, crossing, crossAt, windowAt, makespan as greatestEnd};
+ghost use Rattle.model.specs.Answers.{verdictOf};
 ghost use Rattle.contention.specs.Columns.{phasesBy, Sized, edgesBy, Edges};
 ghost use Rattle.verifier.specs.Columns.{tasksBy, edgesOf, shapeBy, planBy, Between, coresOf, startsOf, endsOf};
 ghost use Rattle.verifier.specs.Judging.{spansCheck, ruled, judgementOf, columnOf, phaseCores, phaseStarts, phaseEnds, phaseLoads};
@@ -20,6 +21,7 @@ use model::Fault;
 use model::Refusal;
 use model::Side;
 use model::Time;
+use model::Verdict;
 
 fn refuse_if(bad: bool, fault: Fault, task: usize) -> Check
     requires { ⌜ task < 64 ⌝ }
@@ -358,4 +360,22 @@ pub fn judge(
         end,
         words,
     )
+}
+
+// The verifier: the makespan of a table that obeys every rule, or the first refusal.
+pub fn verify(plan: &[u8], table: &[u8]) -> Verdict
+    ensures { λ r. ⌜ r ≡ verdictOf (now (plan .entry)) (now (table .entry)) ⌝ }
+{
+    let mut core = [0u32; 128];
+    let mut start = [0u32; 128];
+    let mut end = [0u32; 128];
+    let mut words = [0u32; 128];
+    match judge(plan, table, &mut core, &mut start, &mut end, &mut words) {
+        Judgement::Obeys {
+            bus: _,
+            tasks: _,
+            makespan: ends,
+        } => Verdict::Accepted(ends),
+        Judgement::Refused(r) => Verdict::Refused(r),
+    }
 }
