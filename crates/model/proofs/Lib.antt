@@ -22,3 +22,4 @@ pub mod Renumbered
 pub mod Rules
 pub mod Accepts
 pub mod MakeVerify
+pub mod Verdicts

@@ -11,7 +11,7 @@ use Rattle.model.specs.Refusals.{refusal, refuseIf, orElse, firstBad}
 use Rattle.model.specs.Plan.{Plan, tasks, edges, cost, source, target}
 use Rattle.model.specs.Table.{Table}
 use Rattle.model.specs.Contention.{Phases, phasesOf}
-use Rattle.model.specs.Rules.{GoodTable, delayAt, executeAt, edgeAt, crossing, crossAt, crossFrom, windowAt, rulesCheck, makespan}
+use Rattle.model.specs.Rules.{GoodTable, Greatest, delayAt, executeAt, edgeAt, crossing, crossAt, crossFrom, windowAt, rulesCheck, makespan}
 use Rattle.model.specs.declared.Bus.{Bus}
 use Rattle.model.specs.declared.Fault.the-variants.{ExecuteShort, ReadEarly, SpansCross, WindowShort}
 use Rattle.model.specs.declared.Side.the-variants.{OfTable}
@@ -111,11 +111,7 @@ module _ (p : Plan) (t : Table) where
         first-all (windowAt (p .bus) (phasesOf p t)) (2 * tasks p) (λ x l. lasts-good (p .bus) (phasesOf p t) x (g .lasts x l)),
       )
 
--- ---- the makespan is the greatest F: none is above it, and no less number has that; 0 of no tasks
-pub record Greatest (f : ℕ → ℕ) (n m : ℕ) : Type 0 where
-  pub above : (i : ℕ) → i < n → f i ≤ m
-  pub least : (k : ℕ) → ((i : ℕ) → i < n → f i ≤ k) → m ≤ k
-
+-- ---- the makespan is the greatest F
 pub makespan-greatest : (n : ℕ) (t : Table) → Greatest (t .F) n (makespan n t)
 makespan-greatest n t = record { above = max-ge (t .F) n; least = max-le (t .F) n }
 

@@ -1,6 +1,7 @@
 -- The five entry points on all inputs: answer and lent output. Document 01, "Refusal numbers": "No lent output changes. On
 -- success only the 20n bytes, or the 4n or 5n numbers, at the front change", and the order of checks of each.
 -- Laws: proofs/Answers.antt. Assumes nothing.
+use mathlib.Core.Path.{_≡_}
 use Prim.Native.Nat.{ℕ, _*_}
 use mathlib.Core.List.{List, [], _∷_, _++_}
 use mathlib.Core.Bool.{not}
@@ -12,7 +13,7 @@ use Rattle.model.specs.Plan.{Plan, tasks, cores}
 use Rattle.model.specs.Graph.{planOf}
 use Rattle.model.specs.Table.{bytes, ofNumbers, tableOf, valuesCheck}
 use Rattle.model.specs.Contention.{phaseWords, phasesOf}
-use Rattle.model.specs.Rules.{rulesCheck, makespan}
+use Rattle.model.specs.Rules.{GoodTable, rulesCheck, makespan, Greatest}
 use Rattle.model.specs.ListRule.{madeBytes, madeMakespan}
 use Rattle.model.specs.BusRule.{answers}
 use Rattle.model.specs.declared.Fault.the-variants.{OutputShort, ServedUnknown, WordsWrong}
@@ -94,6 +95,16 @@ verdictBy (refuses r) = Verdict.Refused r
 -- "The verifier accepts with the makespan."
 unfoldable pub verdictOf : List ℕ → List ℕ → Verdict
 verdictOf p s = verdictBy (judged p s)
+
+-- what a table is accepted for, with makespan m (proofs/Verdicts.antt): plan and table read, every rule holds, m is the
+-- greatest F
+pub record Accepts (p s : List ℕ) (m : ℕ) : Type 0 where
+  pub plan : Plan
+  pub table : List ℕ
+  pub planned : planOf p ≡ gives plan
+  pub read : tableOf plan s ≡ gives table
+  pub good : GoodTable plan (ofNumbers table)
+  pub greatest : Greatest (ofNumbers table .F) (tasks plan) m
 
 -- ---- "The maker: plan, then 8."
 unfoldable pub making : List ℕ → List ℕ → Outcome Plan

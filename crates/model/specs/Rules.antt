@@ -4,6 +4,7 @@
 use Prim.Native.Nat.{ℕ, _+_, _*_, _/_, _≤_, _<_, min, max}
 use mathlib.Core.Path.{_≡_}
 use mathlib.Core.Bool.{Bool, _&&_}
+use mathlib.Core.Logic.{_⊎_}
 use lib.Dec.{ltb, eqb}
 use Rattle.model.specs.Below.{maxBelow}
 use Rattle.model.specs.Counts.{delay}
@@ -14,6 +15,7 @@ use Rattle.model.specs.Contention.{Phases, phasesOf, rivals}
 use Rattle.model.specs.declared.Bus.{Bus}
 use Rattle.model.specs.declared.Fault.the-variants.{ExecuteShort, ReadEarly, SpansCross, WindowShort}
 use Rattle.model.specs.declared.Side.the-variants.{OfTable}
+use Rattle.model.specs.declared.Refusal.{Refusal}
 use Rattle.model.specs.declared.Check.{Check}
 
 -- the delay of phase x, with its counted rivals
@@ -68,6 +70,74 @@ rulesCheck p t =
     (orElse (firstBad (crossFrom p t) (tasks p))
     (firstBad (windowAt (p .bus) (phasesOf p t)) (2 * tasks p))))
 
--- "makespan (greatest F, or 0 with no tasks)"
+-- "makespan (greatest F, or 0 with no tasks)": computed, and as facts: none is above it, and no less number has that
 abbrev pub makespan : ℕ → Table → ℕ
 makespan n t = maxBelow (t .F) n
+
+pub record Greatest (f : ℕ → ℕ) (n m : ℕ) : Type 0 where
+  pub above : (i : ℕ) → i < n → f i ≤ m
+  pub least : (k : ℕ) → ((i : ℕ) → i < n → f i ≤ k) → m ≤ k
+
+-- ---- each refusal as facts: all earlier rules hold, and this one is first broken where the refusal says
+module _ (p : Plan) (t : Table) where
+  abbrev Executes : ℕ → Type 0
+  Executes i = t .E i + cost p i ≤ t .W i
+
+  abbrev Follows : ℕ → Type 0
+  Follows e = t .F (source p e) ≤ t .R (target p e)
+
+  -- a time that two spans share
+  abbrev Shares : ℕ → ℕ → ℕ → Type 0
+  Shares i j x = (t .R i ≤ x) × (x < t .F i) × (t .R j ≤ x) × (x < t .F j)
+
+  abbrev Apart : ℕ → ℕ → Type 0
+  Apart i j = t .core i ≡ t .core j → (x : ℕ) → Shares i j x → ⊥
+
+  abbrev Lasts : ℕ → Type 0
+  Lasts x = phasesOf p t .start x + delayAt (p .bus) (phasesOf p t) x ≤ phasesOf p t .end x
+
+  -- 12, at the lowest task
+  pub record ExecuteBroken (r : Refusal) : Type 0 where
+    pub task : ℕ
+    pub within : task < tasks p
+    pub before : (i : ℕ) → i < task → Executes i
+    pub broken : Executes task → ⊥
+    pub named : r ≡ refusal ExecuteShort OfTable (20 * task)
+
+  -- 13, at the first edge
+  pub record EdgeBroken (r : Refusal) : Type 0 where
+    pub executes : (i : ℕ) → i < tasks p → Executes i
+    pub edge : ℕ
+    pub within : edge < edges p
+    pub before : (e : ℕ) → e < edge → Follows e
+    pub broken : Follows edge → ⊥
+    pub named : r ≡ refusal ReadEarly OfTable (20 * target p edge)
+
+  -- 14, at the first pair by lower task, then higher
+  pub record SpansBroken (r : Refusal) : Type 0 where
+    pub executes : (i : ℕ) → i < tasks p → Executes i
+    pub follows : (e : ℕ) → e < edges p → Follows e
+    pub low : ℕ
+    pub high : ℕ
+    pub ordered : low < high
+    pub within : high < tasks p
+    pub lower : (i j : ℕ) → i < low → i < j → j < tasks p → Apart i j
+    pub before : (j : ℕ) → low < j → j < high → Apart low j
+    pub same : t .core low ≡ t .core high
+    pub shared : (x : ℕ) × Shares low high x
+    pub named : r ≡ refusal SpansCross OfTable (20 * high)
+
+  -- 15, at the lowest task, read before write
+  pub record WindowBroken (r : Refusal) : Type 0 where
+    pub executes : (i : ℕ) → i < tasks p → Executes i
+    pub follows : (e : ℕ) → e < edges p → Follows e
+    pub apart : (i j : ℕ) → i < j → j < tasks p → Apart i j
+    pub phase : ℕ
+    pub within : phase < 2 * tasks p
+    pub before : (x : ℕ) → x < phase → Lasts x
+    pub broken : Lasts phase → ⊥
+    pub named : r ≡ refusal WindowShort OfTable (20 * (phase / 2))
+
+  -- what a refusal of the rules says
+  abbrev pub RuleBroken : Refusal → Type 0
+  RuleBroken r = ExecuteBroken r ⊎ EdgeBroken r ⊎ SpansBroken r ⊎ WindowBroken r
