@@ -1,14 +1,15 @@
 -- Phases as code keeps them: columns of cores, starts, ends and words, phase x at index x; and edges as columns of sources,
 -- targets and words. Assumes nothing.
-use Prim.Native.Nat.{ℕ, _+_, _*_, _≤_, _<_}
+use Prim.Native.Nat.{ℕ, _+_, _*_, _/_, _≤_, _<_}
 use mathlib.Core.Path.{_≡_}
 use mathlib.Core.Bool.{Bool, cond, not, _&&_}
 use mathlib.Core.List.{List}
 use lib.ListN.{length, set, replicate}
 use lib.Dec.{ltb, eqb}
-use Rattle.model.specs.Below.{at}
+use Rattle.model.specs.Below.{at, listBelow}
 use Rattle.model.specs.Plan.{Plan, noPlan, source, target}
-use Rattle.model.specs.Contention.{Phases, moved}
+use Rattle.model.specs.Table.{Table}
+use Rattle.model.specs.Contention.{Phases, ofPhase, moved}
 
 -- ---- two phases on plain numbers: words and window of each, and with their cores (`overlap` and `rival`)
 unfoldable pub overlapOf : ℕ → ℕ → ℕ → ℕ → ℕ → ℕ → Bool
@@ -21,6 +22,16 @@ rivalOf mine words start end core others from to = not (eqb mine core) && overla
 abbrev pub phasesBy : List ℕ → List ℕ → List ℕ → List ℕ → ℕ → Phases
 phasesBy core start end words count =
     record { count = count; core = at core; start = at start; end = at end; words = at words }
+
+-- the phases of a table's n tasks in columns: cores, starts and ends
+abbrev pub coreColumn : ℕ → Table → List ℕ
+coreColumn n t = listBelow (λ x. t .core (x / 2)) (2 * n)
+
+abbrev pub startColumn : ℕ → Table → List ℕ
+startColumn n t = listBelow (ofPhase (t .R) (t .W)) (2 * n)
+
+abbrev pub endColumn : ℕ → Table → List ℕ
+endColumn n t = listBelow (ofPhase (t .E) (t .F)) (2 * n)
 
 -- phase y of the columns is a rival of a phase on core `mine` with its words and its window
 unfoldable pub rivalBy : List ℕ → List ℕ → List ℕ → List ℕ → ℕ → ℕ → ℕ → ℕ → ℕ → Bool

@@ -20,7 +20,7 @@ use Rattle.model.proofs.Below.{list-length}
 use Rattle.model.proofs.Contention.{phase-words-length}
 use Rattle.model.proofs.RoundTrip.{blocks-length}
 use Rattle.table.proofs.Rows.{numbers-long}
-use Rattle.verifier.specs.Columns.{coresOf, startsOf, endsOf}
+use Rattle.contention.specs.Columns.{coreColumn, startColumn, endColumn}
 use Rattle.verifier.specs.Judging.{ruledBy, ruled, judgementBy, judgementOf, columnOf, phaseCores, phaseStarts, phaseEnds, phaseLoads}
 use Rattle.verifier.specs.declared.Judgement.{Judgement}
 
@@ -78,8 +78,8 @@ module _ (plan s core start end words : List ℕ) where
 
       pub judged-rules : (q : Plan) (w : List ℕ) → q ≡ p → w ≡ v → (r : Judgement) (core' start' end' words' : List ℕ)
           → (r ≡ ruled q (ofNumbers w))
-            × ((core' ≡ coresOf (tasks q) (ofNumbers w) ++ drop (2 * tasks q) core) × (start' ≡ startsOf (tasks q) (ofNumbers w) ++ drop (2 * tasks q) start)
-              × (end' ≡ endsOf (tasks q) (ofNumbers w) ++ drop (2 * tasks q) end) × (words' ≡ phaseWords q (ofNumbers w .core) ++ drop (2 * tasks q) words))
+            × ((core' ≡ coreColumn (tasks q) (ofNumbers w) ++ drop (2 * tasks q) core) × (start' ≡ startColumn (tasks q) (ofNumbers w) ++ drop (2 * tasks q) start)
+              × (end' ≡ endColumn (tasks q) (ofNumbers w) ++ drop (2 * tasks q) end) × (words' ≡ phaseWords q (ofNumbers w .core) ++ drop (2 * tasks q) words))
           → (r ≡ judgementOf plan s) × Phased plan s core start end words core' start' end' words'
       judged-rules q w eq ew r core' start' end' words' all =
           (

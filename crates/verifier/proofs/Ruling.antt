@@ -17,9 +17,9 @@ use Rattle.model.specs.declared.Check.{Check}
 use Rattle.model.specs.declared.Check.the-variants.{Good, Bad}
 use Rattle.model.proofs.Below.{join-cong}
 use Rattle.model.proofs.Contention.{Agree, rivals-same, phase-most, phase-words-at}
-use Rattle.contention.specs.Columns.{phasesBy, Sized, edgesBy, Edges}
+use Rattle.contention.specs.Columns.{phasesBy, coreColumn, startColumn, endColumn, Sized, edgesBy, Edges}
 use Rattle.contention.proofs.Columns.{is-column}
-use Rattle.verifier.specs.Columns.{tasksBy, edgesOf, shapeBy, planBy, Between, coresOf, startsOf, endsOf}
+use Rattle.verifier.specs.Columns.{tasksBy, edgesOf, shapeBy, planBy, Between}
 use Rattle.verifier.specs.Judging.{spansCheck, ruled}
 use Rattle.verifier.specs.declared.Judgement.{Judgement}
 use Rattle.verifier.proofs.Fills.{fill-length}
@@ -116,7 +116,7 @@ module _ (bus : Bus) (costs sources targets amounts : List ℕ) (v : Valid (plan
     -- the columns hold the phases in front of what was there
     module _ (core start end words cores starts ends loads : List ℕ)
         (long : (128 ≤ length core) × (128 ≤ length start) × (128 ≤ length end) × (128 ≤ length words))
-        (ec : cores ≡ coresOf n t ++ drop (2 * n) core) (es : starts ≡ startsOf n t ++ drop (2 * n) start) (ee : ends ≡ endsOf n t ++ drop (2 * n) end)
+        (ec : cores ≡ coreColumn n t ++ drop (2 * n) core) (es : starts ≡ startColumn n t ++ drop (2 * n) start) (ee : ends ≡ endColumn n t ++ drop (2 * n) end)
         (ew : loads ≡ phaseWords (edgesBy n sources targets amounts) (t .core) ++ drop (2 * n) words) where
       room : (2 * n ≤ length core) × (2 * n ≤ length start) × (2 * n ≤ length end) × (2 * n ≤ length words)
       room =

@@ -1,12 +1,10 @@
 -- A plan as the columns that were read of it, whole or as far as a rule needs it. Assumes nothing.
 use mathlib.Core.Path.{_≡_}
-use Prim.Native.Nat.{ℕ, _*_, _/_, _<_}
+use Prim.Native.Nat.{ℕ, _<_}
 use mathlib.Core.List.{List}
 use lib.ListN.{length}
-use Rattle.model.specs.Below.{at, listBelow}
+use Rattle.model.specs.Below.{at}
 use Rattle.model.specs.Plan.{Plan, noPlan}
-use Rattle.model.specs.Table.{Table}
-use Rattle.model.specs.Contention.{ofPhase}
 use Rattle.model.specs.declared.Bus.{Bus}
 
 abbrev pub planBy : Bus → List ℕ → List ℕ → List ℕ → List ℕ → Plan
@@ -30,13 +28,3 @@ pub record Between (n : ℕ) (sources targets : List ℕ) : Type 0 where
   pub targets-all : length targets ≡ length sources
   pub sources-known : (e : ℕ) → e < length sources → at sources e < n
   pub targets-known : (e : ℕ) → e < length sources → at targets e < n
-
--- the phases of n tasks in columns: cores, starts and ends
-abbrev pub coresOf : ℕ → Table → List ℕ
-coresOf n t = listBelow (λ x. t .core (x / 2)) (2 * n)
-
-abbrev pub startsOf : ℕ → Table → List ℕ
-startsOf n t = listBelow (ofPhase (t .R) (t .W)) (2 * n)
-
-abbrev pub endsOf : ℕ → Table → List ℕ
-endsOf n t = listBelow (ofPhase (t .E) (t .F)) (2 * n)

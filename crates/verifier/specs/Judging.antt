@@ -10,7 +10,7 @@ use Rattle.model.specs.Rules.{executeAt, edgeAt, crossFrom, rulesCheck, makespa
 use Rattle.model.specs.Answers.{onto, Judged, judged}
 use Rattle.model.specs.declared.Check.{Check}
 use Rattle.model.specs.declared.Check.the-variants.{Good, Bad}
-use Rattle.verifier.specs.Columns.{coresOf, startsOf, endsOf}
+use Rattle.contention.specs.Columns.{coreColumn, startColumn, endColumn}
 use Rattle.verifier.specs.declared.Judgement.{Judgement}
 
 -- the rules that need no phases: 12, 13, 14
@@ -41,13 +41,13 @@ judgementOf p s = judgementBy (judged p s)
 
 -- ---- the phases, in columns lent for them: of bytes that read as a plan and a table
 abbrev pub phaseCores : Plan → Table → List ℕ
-phaseCores p t = coresOf (tasks p) t
+phaseCores p t = coreColumn (tasks p) t
 
 abbrev pub phaseStarts : Plan → Table → List ℕ
-phaseStarts p t = startsOf (tasks p) t
+phaseStarts p t = startColumn (tasks p) t
 
 abbrev pub phaseEnds : Plan → Table → List ℕ
-phaseEnds p t = endsOf (tasks p) t
+phaseEnds p t = endColumn (tasks p) t
 
 abbrev pub phaseLoads : Plan → Table → List ℕ
 phaseLoads p t = phaseWords p (t .core)

@@ -11,8 +11,8 @@ ghost use Rattle.model.specs.Table.{ofNumbers};
 ghost use Rattle.model.specs.Contention.{ofPhase, phaseWords};
 ghost use Rattle.model.specs.Rules.{executeAt, edgeAt, crossing, crossAt, windowAt, makespan as greatestEnd};
 ghost use Rattle.model.specs.Answers.{verdictOf};
-ghost use Rattle.contention.specs.Columns.{phasesBy, Sized, edgesBy, Edges};
-ghost use Rattle.verifier.specs.Columns.{tasksBy, edgesOf, shapeBy, planBy, Between, coresOf, startsOf, endsOf};
+ghost use Rattle.contention.specs.Columns.{phasesBy, coreColumn, startColumn, endColumn, Sized, edgesBy, Edges};
+ghost use Rattle.verifier.specs.Columns.{tasksBy, edgesOf, shapeBy, planBy, Between};
 ghost use Rattle.verifier.specs.Judging.{spansCheck, ruled, judgementOf, columnOf, phaseCores, phaseStarts, phaseEnds, phaseLoads};
 
 use model::Bus;
@@ -226,7 +226,7 @@ fn fill_windows(
     end: &mut [u32],
 )
     requires { ⌜ (tasks ≤ 64) × (5 * tasks ≤ length (now table)) × (128 ≤ length (now core)) × (128 ≤ length (now start)) × (128 ≤ length (now end)) ⌝ }
-    ensures { λ _. ⌜ (now (core .exit) ≡ coresOf tasks (ofNumbers (now (table .entry))) ++ drop (2 * tasks) (now (core .entry))) × (now (start .exit) ≡ startsOf tasks (ofNumbers (now (table .entry))) ++ drop (2 * tasks) (now (start .entry))) × (now (end .exit) ≡ endsOf tasks (ofNumbers (now (table .entry))) ++ drop (2 * tasks) (now (end .entry))) ⌝ }
+    ensures { λ _. ⌜ (now (core .exit) ≡ coreColumn tasks (ofNumbers (now (table .entry))) ++ drop (2 * tasks) (now (core .entry))) × (now (start .exit) ≡ startColumn tasks (ofNumbers (now (table .entry))) ++ drop (2 * tasks) (now (start .entry))) × (now (end .exit) ≡ endColumn tasks (ofNumbers (now (table .entry))) ++ drop (2 * tasks) (now (end .entry))) ⌝ }
 {
     for x in 0..2 * tasks {
         core[x] = table::phase_core(table, x);
@@ -248,7 +248,7 @@ fn fill_phases(
     words: &mut [u32],
 )
     requires { ⌜ (tasks ≤ 64) × Edges tasks (now sources) (now targets) (now amounts) × (5 * tasks ≤ length (now table)) × (128 ≤ length (now core)) × (128 ≤ length (now start)) × (128 ≤ length (now end)) × (128 ≤ length (now words)) ⌝ }
-    ensures { λ _. ⌜ (now (core .exit) ≡ coresOf tasks (ofNumbers (now (table .entry))) ++ drop (2 * tasks) (now (core .entry))) × (now (start .exit) ≡ startsOf tasks (ofNumbers (now (table .entry))) ++ drop (2 * tasks) (now (start .entry))) × (now (end .exit) ≡ endsOf tasks (ofNumbers (now (table .entry))) ++ drop (2 * tasks) (now (end .entry))) × (now (words .exit) ≡ phaseWords (edgesBy tasks (now (sources .entry)) (now (targets .entry)) (now (amounts .entry))) (ofNumbers (now (table .entry)) .core) ++ drop (2 * tasks) (now (words .entry))) ⌝ }
+    ensures { λ _. ⌜ (now (core .exit) ≡ coreColumn tasks (ofNumbers (now (table .entry))) ++ drop (2 * tasks) (now (core .entry))) × (now (start .exit) ≡ startColumn tasks (ofNumbers (now (table .entry))) ++ drop (2 * tasks) (now (start .entry))) × (now (end .exit) ≡ endColumn tasks (ofNumbers (now (table .entry))) ++ drop (2 * tasks) (now (end .entry))) × (now (words .exit) ≡ phaseWords (edgesBy tasks (now (sources .entry)) (now (targets .entry)) (now (amounts .entry))) (ofNumbers (now (table .entry)) .core) ++ drop (2 * tasks) (now (words .entry))) ⌝ }
 {
     let mut cores = [0u32; 64];
     fill_cores(table, tasks, &mut cores);
@@ -297,7 +297,7 @@ fn rules(
 ) -> Judgement
     requires { ⌜ Valid (planBy bus (now costs) (now sources) (now targets) (now amounts)) × (5 * length (now costs) ≤ length (now table)) × (128 ≤ length (now core)) × (128 ≤ length (now start)) × (128 ≤ length (now end)) × (128 ≤ length (now words)) ⌝ }
     ensures answer { λ r. ⌜ r ≡ ruled (planBy bus (now (costs .entry)) (now (sources .entry)) (now (targets .entry)) (now (amounts .entry))) (ofNumbers (now (table .entry))) ⌝ }
-    ensures phases { λ r. ⌜ (now (core .exit) ≡ coresOf (length (now (costs .entry))) (ofNumbers (now (table .entry))) ++ drop (2 * length (now (costs .entry))) (now (core .entry))) × (now (start .exit) ≡ startsOf (length (now (costs .entry))) (ofNumbers (now (table .entry))) ++ drop (2 * length (now (costs .entry))) (now (start .entry))) × (now (end .exit) ≡ endsOf (length (now (costs .entry))) (ofNumbers (now (table .entry))) ++ drop (2 * length (now (costs .entry))) (now (end .entry))) × (now (words .exit) ≡ phaseWords (planBy bus (now (costs .entry)) (now (sources .entry)) (now (targets .entry)) (now (amounts .entry))) (ofNumbers (now (table .entry)) .core) ++ drop (2 * length (now (costs .entry))) (now (words .entry))) ⌝ }
+    ensures phases { λ r. ⌜ (now (core .exit) ≡ coreColumn (length (now (costs .entry))) (ofNumbers (now (table .entry))) ++ drop (2 * length (now (costs .entry))) (now (core .entry))) × (now (start .exit) ≡ startColumn (length (now (costs .entry))) (ofNumbers (now (table .entry))) ++ drop (2 * length (now (costs .entry))) (now (start .entry))) × (now (end .exit) ≡ endColumn (length (now (costs .entry))) (ofNumbers (now (table .entry))) ++ drop (2 * length (now (costs .entry))) (now (end .entry))) × (now (words .exit) ≡ phaseWords (planBy bus (now (costs .entry)) (now (sources .entry)) (now (targets .entry)) (now (amounts .entry))) (ofNumbers (now (table .entry)) .core) ++ drop (2 * length (now (costs .entry))) (now (words .entry))) ⌝ }
 {
     let tasks = costs.len();
     fill_phases(sources, targets, amounts, tasks, table, core, start, end, words);
