@@ -1,0 +1,1 @@
+// Step 2 of the list rule: the starts of a candidate's places, in list order.
