@@ -32,7 +32,7 @@ def plan(data):
     else:
         line = 'plan' + joined([got.cores, got.T, got.D]) + ' tasks' + joined(got.costs) + ' order' + joined(d.list_order(got))
         line += ' edges' + ''.join(joined(e[k] for e in got.edges) for k in range(3))
-    add(1, [data, b''], line)
+    add(1, [data, b'', b''], line)
 
 
 # ---- kind 2: the reader's step at a place
@@ -44,7 +44,29 @@ def step(data, at):
         line = 'step' + refused((got[1], d.PLAN, got[2])) + ' then %d' % at
     else:
         line = 'step' + joined([got[1], at, len(got[2])]) + ' then %d' % got[3]
-    add(2, [data, d.octets(at, 2)], line)
+    add(2, [data, b'', d.octets(at, 2)], line)
+
+
+def answered(said):
+    return refused(said) if said[0] else ''
+
+
+# ---- kind 3: a table read into a lent list of a length
+def read(data, table, room):
+    said, out = d.read(data, table, [9] * room)
+    add(3, [data, table, d.octets(room, 2)], 'read' + answered(said) + ' list' + joined(out))
+
+
+# ---- kind 4: numbers written into a lent output of a length
+def write(data, numbers, room):
+    said, out = d.write(data, numbers, bytes([9] * room))
+    add(4, [data, b''.join(d.octets(x, 4) for x in numbers), d.octets(room, 2)], 'write' + answered(said) + ' bytes' + joined(out))
+
+
+# ---- kind 5: a table judged
+def verify(data, table):
+    said = d.verify(data, table)
+    add(5, [data, table, b''], 'verify' + (refused(said) if said[0] else joined(said[3])))
 
 
 def header(cores=2, t=3, words=3):
@@ -107,7 +129,114 @@ def plans():
         plan(bytes(data))
 
 
+PLAN_B = d.plan_bytes(3, 3, 3, [5, 20, 10], [(0, 1, 4), (0, 2, 4)])
+TASK_0 = (0, 0, 0, 5, 13)
+FAR = 4294967295
+
+
+def reads_b(first, second):
+    return [TASK_0, (1, *first, first[1] + 20, first[1] + 20), (2, *second, second[1] + 10, second[1] + 10)]
+
+
+def tables():
+    rows = reads_b((13, 23), (13, 23))
+    good = d.table_bytes(rows)
+    read(PLAN_B, good, 15)
+    read(PLAN_B, good, 17)
+    read(PLAN_B, good, 14)
+    read(PLAN_B, good, 0)
+    read(header(), b'', 0)
+    read(header(), b'', 3)
+    read(header(), b'\x00', 3)
+    read(b'', good, 15)
+    read(header() + task() + edge(0, 0), b'', 0)
+    # a table that ends between fields, inside a header, inside a body; bytes left over
+    for cut in (0, 1, 2, 3, 19, 20, 22, 40, 59):
+        read(PLAN_B, good[:cut], 15)
+    read(PLAN_B, good + b'\x04', 15)
+    read(PLAN_B, good + good[:20], 15)
+    # tag, length, core, marks, each at the second field, then two faults in one input
+    second = lambda at, value: good[:20 + at] + bytes([value]) + good[21 + at:]
+    for at, value in ((0, 3), (0, 0), (1, 1), (2, 16), (2, 18), (3, 3), (3, 255), (4, 1), (8, 1), (12, 1)):
+        read(PLAN_B, second(at, value), 15)
+    read(PLAN_B, second(0, 5)[:30], 15)
+    read(PLAN_B, second(2, 16)[:30], 15)
+    read(PLAN_B, second(3, 3)[:50], 15)
+    read(PLAN_B, second(3, 9)[:20] + good[20:23] + b'\x03' + d.octets(9, 4) + d.octets(8, 4) + bytes(8) + good[40:], 2)
+    read(PLAN_B, second(12, 1) + b'\x00', 2)
+    read(PLAN_B, good + b'\x00', 2)
+    read(PLAN_A + b'\x09', good, 2)
+    # the greatest marks
+    read(PLAN_B, d.table_bytes([(2, FAR, FAR, FAR, FAR)] * 3), 15)
+    read(PLAN_B, d.table_bytes([(0, 0, 0, 0, FAR), (0, FAR, FAR, FAR, FAR - 1), (0, 0, 0, 0, 0)]), 15)
+
+    flat = [x for row in rows for x in row]
+    write(PLAN_B, flat, 60)
+    write(PLAN_B, flat, 63)
+    write(PLAN_B, flat, 59)
+    write(PLAN_B, flat, 0)
+    write(header(), [], 0)
+    write(header(), [], 2)
+    write(header(), [1], 2)
+    write(b'', flat, 60)
+    for count in (0, 5, 14, 16, 20):
+        write(PLAN_B, (flat * 2)[:count], 60)
+    change = lambda at, value: flat[:at] + [value] + flat[at + 1:]
+    for at, value in ((0, 3), (5, 3), (5, 255), (5, 256), (5, FAR), (10, 258), (6, 24), (7, 12), (7, 44), (8, 22), (8, 44), (9, 42), (14, 0)):
+        write(PLAN_B, change(at, value), 60)
+    write(PLAN_B, change(5, 3)[:14], 60)
+    write(PLAN_B, change(5, 3)[:6] + [99, 1] + flat[8:], 5)
+    write(PLAN_B, change(9, 42)[:10] + [9] + flat[11:], 5)
+    write(PLAN_B, [0, FAR, FAR, FAR, FAR] + [1, 0, 0, 0, FAR] + [2, 1, 16909060, 16909061, 3405691582], 60)
+    write(PLAN_A + b'\x09', flat[:3], 0)
+
+
+def judged():
+    for first, second in (((13, 23), (13, 23)), ((13, 22), (13, 22)), ((13, 17), (17, 21)), ((13, 17), (16, 20)), ((13, 23), (13, 22)), ((13, 19), (19, 23)), ((13, 17), (17, 20))):
+        verify(PLAN_B, d.table_bytes(reads_b(first, second)))
+    verify(header(), b'')
+    verify(header(), b'\x04')
+    verify(b'', b'')
+    verify(b'', d.table_bytes([TASK_0]))
+    rows = reads_b((13, 23), (13, 23))
+    change = lambda i, k, x: [row[:k] + (x,) + row[k + 1:] if j == i else row for j, row in enumerate(rows)]
+    # each rule alone, at its place; sums of the greatest marks do not wrap
+    for i, k, x in ((0, 3, 4), (1, 3, 42), (2, 3, 32), (1, 1, 12), (2, 1, 12), (0, 4, 14), (0, 4, 12), (1, 2, 22), (2, 2, 22), (1, 0, 0), (2, 0, 1), (1, 0, 2), (2, 4, FAR), (1, 4, FAR)):
+        verify(PLAN_B, d.table_bytes(change(i, k, x)))
+    verify(PLAN_B, d.table_bytes([(0, FAR, FAR, FAR, FAR)] * 3))
+    verify(PLAN_B, d.table_bytes([(0, 0, 0, 5, 13), (1, 13, FAR - 20, FAR, FAR), (2, 13, FAR - 10, FAR, FAR)]))
+    verify(PLAN_B, d.table_bytes([(0, 0, 0, 5, 13), (1, 13, FAR - 19, FAR, FAR), (2, 13, FAR - 10, FAR, FAR)]))
+    # two rules broken: 12 before 13 before 14 before 15, pairs by lower task, then higher
+    verify(PLAN_B, d.table_bytes([(0, 0, 0, 5, 13), (1, 12, 22, 41, 41), (2, 13, 23, 33, 33)]))
+    verify(PLAN_B, d.table_bytes([(0, 0, 0, 5, 13), (0, 12, 12, 32, 32), (2, 13, 14, 24, 24)]))
+    verify(PLAN_B, d.table_bytes([(0, 0, 0, 5, 5), (0, 5, 5, 25, 25), (0, 6, 6, 16, 16)]))
+    verify(header(2, 1, 1) + task(1) * 4, d.table_bytes([(0, 0, 0, 9, 9), (1, 0, 0, 5, 5), (1, 4, 4, 6, 6), (0, 8, 8, 10, 10)]))
+    verify(header(2, 1, 1) + task(1) * 4, d.table_bytes([(0, 0, 0, 9, 9), (1, 0, 0, 5, 5), (1, 5, 5, 6, 6), (0, 9, 9, 10, 10)]))
+    # empty spans, empty windows, windows without words, rivals on one core and many rivals
+    verify(header(1, 1, 1) + task(1) * 2, d.table_bytes([(0, 0, 0, 9, 9), (0, 4, 4, 5, 5)]))
+    verify(d.plan_bytes(2, 2, 1, [1, 1], [(0, 1, 0)]), d.table_bytes([(0, 0, 0, 1, 1), (1, 1, 1, 2, 2)]))
+    wide = d.plan_bytes(8, 2, 1, [1] * 9, [(0, t, 1) for t in range(1, 9)])
+    verify(wide, d.table_bytes([(0, 0, 0, 1, 99)] + [(1 + t % 7, 99 + 40 * (t // 7), 115 + 40 * (t // 7), 116 + 40 * (t // 7), 116 + 40 * (t // 7)) for t in range(8)]))
+    verify(wide, d.table_bytes([(0, 0, 0, 1, 99)] + [(1 + t % 7, 99, 113, 114, 114) for t in range(8)]))
+    rng = random.Random(11)
+    for _ in range(80):
+        n = rng.randint(1, 5)
+        ends = sorted({(rng.randrange(n), rng.randrange(n)) for _ in range(rng.randint(0, 4))})
+        data = d.plan_bytes(rng.randint(1, 4), rng.choice([2, 4]), 2, [rng.randint(1, 6) for _ in range(n)], [(s, t, rng.randint(0, 6)) for s, t in ends if s < t])
+        _, table = d.make(data, bytes(20 * n))
+        rows = [list(d.read_table(d.parse_plan(data), table)[i].five()) for i in range(n)]
+        if rng.random() < 0.8:
+            i, k = rng.randrange(n), rng.randrange(5)
+            rows[i][k] = max(0, rows[i][k] + rng.choice([-2, -1, 1, 2]))
+        if rng.random() < 0.3:
+            i, j = rng.randrange(n), rng.randrange(n)
+            rows[i][1:], rows[j][1:] = rows[j][1:], rows[i][1:]
+        verify(data, d.table_bytes(rows))
+
+
 plans()
+tables()
+judged()
 with open(os.path.join(ROOT, 'stdin'), 'wb') as f:
     f.write(b''.join(data for data, _ in cases))
 with open(os.path.join(ROOT, 'stdout'), 'w') as f:

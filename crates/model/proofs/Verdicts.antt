@@ -200,33 +200,45 @@ module _ (p : Plan) (t : Table) where
         bad = bad-execute (b .task) (b .broken) (b .named);
       }))
   rules-test (inr (inl b)) =
-      rw (good-12 (b .executes), stopped-first (edgeAt p t) (edges p) (record {
-        here = b .edge;
-        within = b .within;
-        before = λ e l. follows-good p t e (b .before e l);
-        bad = bad-edge (b .edge) (b .broken) (b .named);
-      }))
+      rw (
+        good-12 (b .executes),
+        stopped-first (edgeAt p t) (edges p) (record {
+          here = b .edge;
+          within = b .within;
+          before = λ e l. follows-good p t e (b .before e l);
+          bad = bad-edge (b .edge) (b .broken) (b .named);
+        }),
+      )
   rules-test (inr (inr (inl b))) =
-      rw (good-12 (b .executes), good-13 (b .follows), stopped-first (crossFrom p t) (tasks p) (record {
-        here = b .low;
-        within = omega (arith, b .ordered, b .within);
-        before = λ i l. first-all (crossAt t i) (tasks p) (λ j k. apart-pair i j (λ m. b .lower i j l m k));
-        bad =
-            stopped-first (crossAt t (b .low)) (tasks p)
-            (record {
-              here = b .high;
-              within = b .within;
-              before = λ j k. apart-pair (b .low) j (λ m. b .before j m k);
-              bad = bad-cross (b .low) (b .high) (b .ordered, b .same, b .shared) (b .named);
-            });
-      }))
+      rw (
+        good-12 (b .executes),
+        good-13 (b .follows),
+        stopped-first (crossFrom p t) (tasks p) (record {
+          here = b .low;
+          within = omega (arith, b .ordered, b .within);
+          before = λ i l. first-all (crossAt t i) (tasks p) (λ j k. apart-pair i j (λ m. b .lower i j l m k));
+          bad =
+              stopped-first (crossAt t (b .low)) (tasks p)
+              (record {
+                here = b .high;
+                within = b .within;
+                before = λ j k. apart-pair (b .low) j (λ m. b .before j m k);
+                bad = bad-cross (b .low) (b .high) (b .ordered, b .same, b .shared) (b .named);
+              });
+        }),
+      )
   rules-test (inr (inr (inr b))) =
-      rw (good-12 (b .executes), good-13 (b .follows), good-14 (b .apart), stopped-first (windowAt (p .bus) (phasesOf p t)) (2 * tasks p) (record {
-        here = b .phase;
-        within = b .within;
-        before = λ x l. lasts-good (p .bus) (phasesOf p t) x (b .before x l);
-        bad = bad-window (b .phase) (b .broken) (b .named);
-      }))
+      rw (
+        good-12 (b .executes),
+        good-13 (b .follows),
+        good-14 (b .apart),
+        stopped-first (windowAt (p .bus) (phasesOf p t)) (2 * tasks p) (record {
+          here = b .phase;
+          within = b .within;
+          before = λ x l. lasts-good (p .bus) (phasesOf p t) x (b .before x l);
+          bad = bad-window (b .phase) (b .broken) (b .named);
+        }),
+      )
 
 -- ---- the verdict
 abbrev named : Verdict → ℕ

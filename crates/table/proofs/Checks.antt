@@ -74,4 +74,3 @@ pub four-read : (s : List ℕ) (i a b c d : ℕ) → a ≡ at s i → b ≡ at s
 four-read s i a b c d ea eb ec ed =
     let q : i + 3 ≡ i + 2 + 1 = omega arith in
     rw (ea, eb, ec, ed, q)
-

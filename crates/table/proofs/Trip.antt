@@ -52,13 +52,12 @@ read-write plan s out small e =
     let range = in-range-same p (ofBytes s) (ofNumbers v) (tasks p) (of-numbers (tasks p) (ofBytes s)) (rows-in-range p s (pt .0)) in
     let five = eq-eqb (length v) (5 * tasks p) (blocks-length (numbersAt (ofBytes s)) 5 (numbers-long (ofBytes s)) (tasks p)) in
     let good = first-all (valuesAt (cores p) (ofNumbers v)) (tasks p) (λ i h. values-good p (ofNumbers v) (tasks p) i h range) in
-    let back = numbers-write (cores p) (tasks p) s small (pt .0) in
-    (
+    let back = numbers-write (cores p) (tasks p) s small (pt .0) in (
       v,
       rw (g .1, ← same),
       λ lent h.
-      let l = le-ltb (length lent) (20 * tasks p) (omega arith) in
-      (rw (ep, five, good, l), rw (ep, five, good, l, back)),
+          let l = le-ltb (length lent) (20 * tasks p) (omega arith) in
+          (rw (ep, five, good, l), rw (ep, five, good, l, back)),
     )))
 
 -- ---- "valid values written read back the same"
@@ -75,13 +74,12 @@ write-read plan v out e =
     let range = values-in-range p v (given-values (cores p) (tasks p) v (ok .0)) in
     let s = bytes (ofNumbers v) (tasks p) in
     let reads = written-reads p (ofNumbers v) range in
-    let all = numbers-all v (tasks p) long in
-    (
+    let all = numbers-all v (tasks p) long in (
       s,
       rw (g .1, ← (pr .1)),
       λ lent h.
-      let l = le-ltb (length lent) (5 * tasks p) (omega arith) in
-      (rw (ep, reads, l), rw (ep, reads, l, all)),
+          let l = le-ltb (length lent) (5 * tasks p) (omega arith) in
+          (rw (ep, reads, l), rw (ep, reads, l, all)),
     ))
 
 -- ---- what the promises allow is one answer and one output

@@ -9,7 +9,6 @@ ghost use Rattle.model.specs.Refusals.{refusal, firstBad};
 ghost use Rattle.model.specs.Contention.{ofPhase};
 ghost use Rattle.model.specs.Answers.{decodedOf, decodedOutput, writtenOf, writtenOutput};
 ghost use Rattle.model.specs.Table.{ofNumbers, ofBytes, numbersAt, numbers, fourBytes, fieldBytes, bytesAt, bytes, valuesOf, valuesAt, rowAt, rowsCheck, valuesCheck};
-
 use model::Check;
 use model::Decoded;
 use model::Fault;
@@ -112,7 +111,7 @@ fn values_check(cores: u32, place: usize, core: u32, r: u32, e: u32, w: u32, f: 
     Check::Good
 }
 
-// A byte, and the number of four bytes.
+// A byte, and the number of four bytes, high byte first.
 fn byte_at(s: &[u8], i: usize) -> u32
     requires { ⌜ i < length (now s) ⌝ }
     ensures { λ r. ⌜ (r ≡ at (now (s .entry)) i) × (r < 256) ⌝ }
@@ -120,7 +119,7 @@ fn byte_at(s: &[u8], i: usize) -> u32
     s[i] as u32
 }
 
-fn four_at(s: &[u8], i: usize) -> u32
+pub fn four_at(s: &[u8], i: usize) -> u32
     requires { ⌜ i + 4 ≤ length (now s) ⌝ }
     ensures { λ r. ⌜ r ≡ four (now (s .entry)) i ⌝ }
 {

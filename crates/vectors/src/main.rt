@@ -1,9 +1,10 @@
-// Runs cases from standard input and prints what the functions answer, a line for each. A case is a kind and blocks; a block
+// Runs cases from standard input and prints what the functions answer, a line for each. A case is a kind and three blocks; a block
 // is a two-byte length and bytes. tests/vectors/gen.py writes the cases, and what an independent program says of them.
 ghost use Prim.Native.Nat.{_+_, _<_, _≤_};
 ghost use lib.ListN.{length};
 
 mod plans;
+mod tables;
 mod text;
 
 // A block: where its bytes begin and end. One that is cut ends with the input.
@@ -39,7 +40,22 @@ fn small(s: &[u8]) -> usize {
     0
 }
 
-// One case of two blocks; the answer is where the next one begins.
+// What a case's function answers of its blocks.
+fn show(kind: u8, first: &[u8], second: &[u8], third: &[u8]) {
+    if kind == 1 {
+        plans::show_plan(first);
+    } else if kind == 2 {
+        plans::show_step(first, small(third));
+    } else if kind == 3 {
+        tables::show_read(first, second, small(third));
+    } else if kind == 4 {
+        tables::show_write(first, second, small(third));
+    } else {
+        tables::show_verify(first, second);
+    }
+}
+
+// One case; the answer is where the next one begins.
 fn case(s: &[u8], at: usize) -> usize
     requires { ⌜ at < length (now s) ⌝ }
     ensures { λ r. ⌜ (at < r) × (r ≤ length (now (s .entry))) ⌝ }
@@ -51,12 +67,11 @@ fn case(s: &[u8], at: usize) -> usize
     let second = block(s, b);
     let c = second.from;
     let d = second.to;
-    if kind == 1 {
-        plans::show_plan(&s[a..b]);
-        return d;
-    }
-    plans::show_step(&s[a..b], small(&s[c..d]));
-    d
+    let third = block(s, d);
+    let e = third.from;
+    let f = third.to;
+    show(kind, &s[a..b], &s[c..d], &s[e..f]);
+    f
 }
 
 fn cases(s: &[u8]) {

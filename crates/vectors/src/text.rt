@@ -46,3 +46,9 @@ pub fn halves(s: &[u16]) {
         number(s[i] as u64);
     }
 }
+
+pub fn numbers(s: &[u32]) {
+    for i in 0..s.len() {
+        number(s[i] as u64);
+    }
+}

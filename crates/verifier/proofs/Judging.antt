@@ -78,19 +78,18 @@ module _ (plan s core start end words : List ℕ) where
 
       pub judged-rules : (q : Plan) (w : List ℕ) → q ≡ p → w ≡ v → (r : Judgement) (core' start' end' words' : List ℕ)
           → (r ≡ ruled q (ofNumbers w))
-            × ((core' ≡ coreColumn (tasks q) (ofNumbers w) ++ drop (2 * tasks q) core) × (start' ≡ startColumn (tasks q) (ofNumbers w) ++ drop (2 * tasks q) start)
-              × (end' ≡ endColumn (tasks q) (ofNumbers w) ++ drop (2 * tasks q) end) × (words' ≡ phaseWords q (ofNumbers w .core) ++ drop (2 * tasks q) words))
+          × ((core' ≡ coreColumn (tasks q) (ofNumbers w) ++ drop (2 * tasks q) core) × (start' ≡ startColumn (tasks q) (ofNumbers w) ++ drop (2 * tasks q) start)
+          × (end' ≡ endColumn (tasks q) (ofNumbers w) ++ drop (2 * tasks q) end) × (words' ≡ phaseWords q (ofNumbers w .core) ++ drop (2 * tasks q) words))
           → (r ≡ judgementOf plan s) × Phased plan s core start end words core' start' end' words'
-      judged-rules q w eq ew r core' start' end' words' all =
-          (
-            judged-all r (rw (eq, ew) at (all .0)),
-            (
-              column-all phaseCores core core' (list-length _ (2 * tasks p)) (rw (eq, ew) at (all .1 .0)),
-              column-all phaseStarts start start' (list-length _ (2 * tasks p)) (rw (eq, ew) at (all .1 .1)),
-              column-all phaseEnds end end' (list-length _ (2 * tasks p)) (rw (eq, ew) at (all .1 .2)),
-              column-all phaseLoads words words' (phase-words-length p (ofNumbers v .core)) (rw (eq, ew) at (all .1 .3)),
-            ),
-          )
+      judged-rules q w eq ew r core' start' end' words' all = (
+        judged-all r (rw (eq, ew) at (all .0)),
+        (
+          column-all phaseCores core core' (list-length _ (2 * tasks p)) (rw (eq, ew) at (all .1 .0)),
+          column-all phaseStarts start start' (list-length _ (2 * tasks p)) (rw (eq, ew) at (all .1 .1)),
+          column-all phaseEnds end end' (list-length _ (2 * tasks p)) (rw (eq, ew) at (all .1 .2)),
+          column-all phaseLoads words words' (phase-words-length p (ofNumbers v .core)) (rw (eq, ew) at (all .1 .3)),
+        ),
+      )
 
 -- ---- from a judgement to a verdict
 abbrev verdict : Judgement → Verdict

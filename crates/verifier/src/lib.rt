@@ -14,7 +14,6 @@ ghost use Rattle.model.specs.Answers.{verdictOf};
 ghost use Rattle.contention.specs.Columns.{phasesBy, coreColumn, startColumn, endColumn, Sized, edgesBy, Edges};
 ghost use Rattle.verifier.specs.Columns.{tasksBy, edgesOf, shapeBy, planBy, Between};
 ghost use Rattle.verifier.specs.Judging.{spansCheck, ruled, judgementOf, columnOf, phaseCores, phaseStarts, phaseEnds, phaseLoads};
-
 use model::Bus;
 use model::Check;
 use model::Fault;
@@ -175,14 +174,7 @@ fn window_at(
     refuse_if(wide(end[x]) < due, Fault::WindowShort, x / 2)
 }
 
-fn windows(
-    bus: Bus,
-    core: &[u32],
-    start: &[u32],
-    end: &[u32],
-    words: &[u32],
-    count: usize,
-) -> Check
+fn windows(bus: Bus, core: &[u32], start: &[u32], end: &[u32], words: &[u32], count: usize) -> Check
     requires { ⌜ Settings bus × Sized (now core) (now start) (now end) (now words) count × ((x : ℕ) → x < count → at (now words) x ≤ mostWords) ⌝ }
     ensures { λ r. ⌜ r ≡ firstBad (windowAt bus (phasesBy (now (core .entry)) (now (start .entry)) (now (end .entry)) (now (words .entry)) count)) count ⌝ }
 {
@@ -218,13 +210,7 @@ fn fill_cores(table: &[u32], tasks: usize, cores: &mut [u32])
 }
 
 // Core and window of each phase.
-fn fill_windows(
-    table: &[u32],
-    tasks: usize,
-    core: &mut [u32],
-    start: &mut [u32],
-    end: &mut [u32],
-)
+fn fill_windows(table: &[u32], tasks: usize, core: &mut [u32], start: &mut [u32], end: &mut [u32])
     requires { ⌜ (tasks ≤ 64) × (5 * tasks ≤ length (now table)) × (128 ≤ length (now core)) × (128 ≤ length (now start)) × (128 ≤ length (now end)) ⌝ }
     ensures { λ _. ⌜ (now (core .exit) ≡ coreColumn tasks (ofNumbers (now (table .entry))) ++ drop (2 * tasks) (now (core .entry))) × (now (start .exit) ≡ startColumn tasks (ofNumbers (now (table .entry))) ++ drop (2 * tasks) (now (start .entry))) × (now (end .exit) ≡ endColumn tasks (ofNumbers (now (table .entry))) ++ drop (2 * tasks) (now (end .entry))) ⌝ }
 {
@@ -300,7 +286,17 @@ fn rules(
     ensures phases { λ r. ⌜ (now (core .exit) ≡ coreColumn (length (now (costs .entry))) (ofNumbers (now (table .entry))) ++ drop (2 * length (now (costs .entry))) (now (core .entry))) × (now (start .exit) ≡ startColumn (length (now (costs .entry))) (ofNumbers (now (table .entry))) ++ drop (2 * length (now (costs .entry))) (now (start .entry))) × (now (end .exit) ≡ endColumn (length (now (costs .entry))) (ofNumbers (now (table .entry))) ++ drop (2 * length (now (costs .entry))) (now (end .entry))) × (now (words .exit) ≡ phaseWords (planBy bus (now (costs .entry)) (now (sources .entry)) (now (targets .entry)) (now (amounts .entry))) (ofNumbers (now (table .entry)) .core) ++ drop (2 * length (now (costs .entry))) (now (words .entry))) ⌝ }
 {
     let tasks = costs.len();
-    fill_phases(sources, targets, amounts, tasks, table, core, start, end, words);
+    fill_phases(
+        sources,
+        targets,
+        amounts,
+        tasks,
+        table,
+        core,
+        start,
+        end,
+        words,
+    );
     let apart = spans(costs, sources, targets, table);
     if let Check::Bad(r) = apart {
         return Judgement::Refused(r);

@@ -40,7 +40,7 @@ same-length c = search needs
 returns : tie.Need-returns Inv-loop μ-loop
 returns c =
     let l = c .before in
-    blocks-end _ 20 (field-long _) _ _ _ _ (l .loop .inv .0) (c .loop-test .left) (c .before .before .before .before .pre .2 ) (l .loop .inv .2)
+    blocks-end _ 20 (field-long _) _ _ _ _ (l .loop .inv .0) (c .loop-test .left) (c .before .before .before .before .pre .2) (l .loop .inv .2)
 
 pub put-rows-spec : {M : Type 1} → statement M
 put-rows-spec =
