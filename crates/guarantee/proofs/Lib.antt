@@ -6,3 +6,4 @@ pub mod Round
 pub mod Bound
 pub mod Guarantee
 pub mod Demand
+pub mod Verified

@@ -5,6 +5,7 @@ pub mod Counts
 pub mod Refusals
 pub mod BusRule
 pub mod Waits
+pub mod SameRun
 pub mod Field
 pub mod RoundTrip
 pub mod Stores
