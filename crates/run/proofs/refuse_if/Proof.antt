@@ -1,0 +1,14 @@
+-- `run::refuse_if` meets its contract. By the test.
+use Rattle.run.proofs.Checks.{refuse-yes}
+use borrow.Author.Needs.{needs}
+use Rattle.run.proofs.refuse_if.Statement.{statement}
+use Rattle.run.proofs.refuse_if.Tie as tie
+
+returns : tie.Need-returns
+returns c = refuse-yes (c .before .args .bad) _ (c .if1 .taken)
+
+returns-2 : tie.Need-returns-2
+returns-2 c = search needs
+
+pub refuse-if-spec : {M : Type 1} → statement M
+refuse-if-spec = tie.close (tie.spec returns returns-2)
