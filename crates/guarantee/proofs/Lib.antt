@@ -7,3 +7,4 @@ pub mod Bound
 pub mod Guarantee
 pub mod Demand
 pub mod Verified
+pub mod Alike
