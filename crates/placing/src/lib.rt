@@ -1,1 +1,77 @@
-// Step 2 of the list rule: the starts of a candidate's places, in list order.
+// Step 2 of the list rule: the windows of a candidate's phases, placed in list order. Columns are by phase as everywhere:
+// phase 2a is place a's read, 2a + 1 its write.
+ghost use mathlib.Core.Path.{_≡_};
+ghost use mathlib.Core.Bool.{cond, not, _||_};
+ghost use mathlib.Core.List.{_++_};
+ghost use Prim.Native.Nat.{ℕ, _+_, _*_, _-_, _≤_, _<_, max};
+ghost use lib.Dec.{eqb};
+ghost use lib.ListN.{length, take, drop, set};
+ghost use Rattle.model.specs.Below.{at, maxBelow};
+ghost use Rattle.model.specs.ListRule.{LeastFree, placed};
+ghost use Rattle.contention.specs.Columns.{Sized, startColumn, endColumn};
+ghost use Rattle.placing.specs.Candidates.{candidateBy, Ready};
+ghost use Rattle.placing.specs.Starts.{heldBy, earliestBy, task, taskAt, endMet, metUntil, clashBy, nextBy, Starts, Room, Prepared};
+use model::Bus;
+
+fn later(x: u32, y: u32) -> u32
+    ensures { λ r. ⌜ r ≡ max x y ⌝ }
+{
+    if x < y { y } else { x }
+}
+
+// F of an earlier place, where it holds another up: as its source, or on its core.
+fn held_end(link: u8, core: u32, mine: u32, end: u32) -> u32
+    ensures { λ r. ⌜ r ≡ cond (not (eqb link 0) || eqb core mine) end 0 ⌝ }
+{
+    if (link != 0) | (core == mine) { end } else { 0 }
+}
+
+fn held_at(links: &[u8], core: &[u32], end: &[u32], row: usize, mine: u32, b: usize) -> u32
+    requires { ⌜ (row + b < length (now links)) × (2 * b + 2 ≤ length (now core)) × (2 * b + 2 ≤ length (now end)) ⌝ }
+    ensures { λ r. ⌜ r ≡ heldBy (now (links .entry)) (now (core .entry)) (now (end .entry)) row mine b ⌝ }
+{
+    let read = 2 * b;
+    held_end(links[row + b], core[read], mine, end[read + 1])
+}
+
+// The earliest R of place a: not before the F of any source or of any earlier place on its core.
+fn earliest_start(links: &[u8], core: &[u32], end: &[u32], a: usize) -> u32
+    requires { ⌜ (a < 64) × (64 * a + 64 ≤ length (now links)) × (2 * a + 2 ≤ length (now core)) × (2 * a + 2 ≤ length (now end)) ⌝ }
+    ensures { λ r. ⌜ r ≡ earliestBy (now (links .entry)) (now (core .entry)) (now (end .entry)) a ⌝ }
+{
+    let mine = core[2 * a];
+    let row = 64 * a;
+    let mut from: u32 = 0;
+    for b in 0..a {
+        from = later(from, held_at(links, core, end, row, mine, b));
+    }
+    from
+}
+
+fn end_if(met: bool, end: u32) -> u32
+    ensures { λ r. ⌜ r ≡ cond met end 0 ⌝ }
+{
+    if met { end } else { 0 }
+}
+
+// The end of phase y where the window [from, to) of `own` words on core `mine` meets it, 0 where not.
+fn end_met(
+    core: &[u32],
+    start: &[u32],
+    end: &[u32],
+    words: &[u32],
+    y: usize,
+    mine: u32,
+    own: u32,
+    from: u32,
+    to: u32,
+) -> u32
+    requires { ⌜ Sized (now core) (now start) (now end) (now words) (y + 1) ⌝ }
+    ensures { λ r. ⌜ r ≡ endMet (now (core .entry)) (now (start .entry)) (now (end .entry)) (now (words .entry)) mine own from to y ⌝ }
+{
+    let ends = end[y];
+    end_if(
+        contention::rival(mine, own, from, to, core[y], words[y], start[y], ends),
+        ends,
+    )
+}
