@@ -75,3 +75,54 @@ fn end_met(
         ends,
     )
 }
+
+// The greatest end of the first `count` phases that the window meets, 0 of none.
+fn met_until(
+    core: &[u32],
+    start: &[u32],
+    end: &[u32],
+    words: &[u32],
+    count: usize,
+    mine: u32,
+    own: u32,
+    from: u32,
+    to: u32,
+) -> u32
+    requires { ⌜ Sized (now core) (now start) (now end) (now words) count ⌝ }
+    ensures { λ r. ⌜ r ≡ metUntil (now (core .entry)) (now (start .entry)) (now (end .entry)) (now (words .entry)) count mine own from to ⌝ }
+{
+    if own == 0 {
+        return 0;
+    }
+    let mut until: u32 = 0;
+    for y in 0..count {
+        until = later(
+            until,
+            end_met(core, start, end, words, y, mine, own, from, to),
+        );
+    }
+    until
+}
+
+// A time moved back, to 0 at most.
+fn back(time: u32, by: u32) -> u32
+    ensures { λ r. ⌜ r ≡ time - by ⌝ }
+{
+    if by < time { time - by } else { 0 }
+}
+
+// The windows of place a from its start r: E, W and F follow without gaps.
+fn put_windows(costs: &[u32], lengths: &[u32], a: usize, r: u32, start: &mut [u32], end: &mut [u32])
+    requires { ⌜ (a < length (now costs)) × (2 * a + 2 ≤ length (now lengths)) × (2 * a + 2 ≤ length (now start)) × (2 * a + 2 ≤ length (now end)) × (r + at (now lengths) (2 * a) + at (now costs) a + at (now lengths) (2 * a + 1) < 4294967296) ⌝ }
+    ensures { λ _. ⌜ (now (start .exit) ≡ set (set (now (start .entry)) (2 * a) r) (2 * a + 1) (r + at (now (lengths .entry)) (2 * a) + at (now (costs .entry)) a)) × (now (end .exit) ≡ set (set (now (end .entry)) (2 * a) (r + at (now (lengths .entry)) (2 * a))) (2 * a + 1) (r + at (now (lengths .entry)) (2 * a) + at (now (costs .entry)) a + at (now (lengths .entry)) (2 * a + 1))) ⌝ }
+{
+    let x = 2 * a;
+    let y = x + 1;
+    let e = r + lengths[x];
+    let w = e + costs[a];
+    let f = w + lengths[y];
+    start[x] = r;
+    start[y] = w;
+    end[x] = e;
+    end[y] = f;
+}
