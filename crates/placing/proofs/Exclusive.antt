@@ -176,9 +176,15 @@ module _ (core start end words : List ℕ) (count : ℕ) where
     abbrev pub Passed : ℕ → Type 0
     Passed r = (s : ℕ) → from ≤ s → s < r → clashBy core start end words count t s ≡ true
 
-    pub passed-more : (r x : ℕ) → Passed r → x ≡ nextBy core start end words count t r → Passed x
-    passed-more r x p q s l k =
-        lt-or-ge s r (λ m. p s l m) (λ m. next-all t r s m (subst (λ (y : ℕ). s < y) q k))
+    -- one more
+    pub passed-on :
+        (r x : ℕ) → r ≤ top → Passed r → x ≡ nextBy core start end words count t r → (x ≡ r → ⊥)
+        → (r < x) × (x ≤ top) × Passed x
+    passed-on r x within p q d = (
+      omega (arith, next-later t r (λ z. d (q ∙ z))),
+      omega (arith, next-within t r within),
+      λ s l k. lt-or-ge s r (λ m. p s l m) (λ m. next-all t r s m (subst (λ (y : ℕ). s < y) q k)),
+    )
 
     pub passed-end :
         (r x : ℕ) → from ≤ r → Passed r → x ≡ nextBy core start end words count t r → x ≡ r

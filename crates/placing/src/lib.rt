@@ -111,6 +111,74 @@ fn back(time: u32, by: u32) -> u32
     if by < time { time - by } else { 0 }
 }
 
+// The next start to try: past all phases that the task meets when started at r. A window goes on meeting a phase until it
+// starts at the phase's end, so no free start is passed over.
+fn next_start(
+    core: &[u32],
+    start: &[u32],
+    end: &[u32],
+    words: &[u32],
+    count: usize,
+    mine: u32,
+    reads: u32,
+    writes: u32,
+    read: u32,
+    cost: u32,
+    write: u32,
+    r: u32,
+) -> u32
+    requires { ⌜ Sized (now core) (now start) (now end) (now words) count × (r + read + cost + write < 4294967296) ⌝ }
+    ensures { λ x. ⌜ x ≡ nextBy (now (core .entry)) (now (start .entry)) (now (end .entry)) (now (words .entry)) count (task mine reads writes read cost write) r ⌝ }
+{
+    let e = r + read;
+    let w = e + cost;
+    let f = w + write;
+    let x = met_until(core, start, end, words, count, mine, reads, r, e);
+    let y = met_until(core, start, end, words, count, mine, writes, w, f);
+    later(r, later(x, back(y, read + cost)))
+}
+
+// The least start from `from` on at which the task meets none of the first `count` phases.
+fn exclusive_start(
+    core: &[u32],
+    start: &[u32],
+    end: &[u32],
+    words: &[u32],
+    count: usize,
+    mine: u32,
+    reads: u32,
+    writes: u32,
+    read: u32,
+    cost: u32,
+    write: u32,
+    from: u32,
+) -> u32
+    requires { ⌜ Sized (now core) (now start) (now end) (now words) count × (from ≤ maxBelow (at (now end)) count) × (maxBelow (at (now end)) count + read + cost + write < 4294967296) ⌝ }
+    ensures { λ r. ⌜ LeastFree (clashBy (now (core .entry)) (now (start .entry)) (now (end .entry)) (now (words .entry)) count (task mine reads writes read cost write)) from r ⌝ }
+{
+    let mut r = from;
+    loop {
+        let next = next_start(
+            core,
+            start,
+            end,
+            words,
+            count,
+            mine,
+            reads,
+            writes,
+            read,
+            cost,
+            write,
+            r,
+        );
+        if next == r {
+            return r;
+        }
+        r = next;
+    }
+}
+
 // The windows of place a from its start r: E, W and F follow without gaps.
 fn put_windows(costs: &[u32], lengths: &[u32], a: usize, r: u32, start: &mut [u32], end: &mut [u32])
     requires { ⌜ (a < length (now costs)) × (2 * a + 2 ≤ length (now lengths)) × (2 * a + 2 ≤ length (now start)) × (2 * a + 2 ≤ length (now end)) × (r + at (now lengths) (2 * a) + at (now costs) a + at (now lengths) (2 * a + 1) < 4294967296) ⌝ }
