@@ -1,1 +1,2 @@
 pub mod Exclusive
+pub mod Places

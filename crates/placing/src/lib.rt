@@ -179,6 +179,42 @@ fn exclusive_start(
     }
 }
 
+// R of place a, by its mode.
+fn start_at(
+    costs: &[u32],
+    links: &[u8],
+    choices: &[u32],
+    core: &[u32],
+    words: &[u32],
+    lengths: &[u32],
+    start: &[u32],
+    end: &[u32],
+    a: usize,
+) -> u32
+    requires { ⌜ Room (now costs) (now links) (now choices) (now core) (now words) (now lengths) (now start) (now end) a ⌝ }
+    ensures { λ r. ⌜ Starts (now (costs .entry)) (now (links .entry)) (now (choices .entry)) (now (core .entry)) (now (words .entry)) (now (lengths .entry)) (now (start .entry)) (now (end .entry)) a r ⌝ }
+{
+    let from = earliest_start(links, core, end, a);
+    if choices[a] % 2 != 1 {
+        return from;
+    }
+    let x = 2 * a;
+    exclusive_start(
+        core,
+        start,
+        end,
+        words,
+        x,
+        core[x],
+        words[x],
+        words[x + 1],
+        lengths[x],
+        costs[a],
+        lengths[x + 1],
+        from,
+    )
+}
+
 // The windows of place a from its start r: E, W and F follow without gaps.
 fn put_windows(costs: &[u32], lengths: &[u32], a: usize, r: u32, start: &mut [u32], end: &mut [u32])
     requires { ⌜ (a < length (now costs)) × (2 * a + 2 ≤ length (now lengths)) × (2 * a + 2 ≤ length (now start)) × (2 * a + 2 ≤ length (now end)) × (r + at (now lengths) (2 * a) + at (now costs) a + at (now lengths) (2 * a + 1) < 4294967296) ⌝ }
@@ -193,4 +229,28 @@ fn put_windows(costs: &[u32], lengths: &[u32], a: usize, r: u32, start: &mut [u3
     start[y] = w;
     end[x] = e;
     end[y] = f;
+}
+
+// Step 2: the windows of all places, in list order.
+pub fn place(
+    bus: Bus,
+    costs: &[u32],
+    sources: &[u8],
+    targets: &[u8],
+    amounts: &[u16],
+    links: &[u8],
+    choices: &[u32],
+    core: &[u32],
+    words: &[u32],
+    lengths: &[u32],
+    start: &mut [u32],
+    end: &mut [u32],
+)
+    requires { ⌜ Ready bus (now costs) (now sources) (now targets) (now amounts) (now links) (now choices) × Prepared (candidateBy bus (now costs) (now sources) (now targets) (now amounts) (now choices)) (now core) (now words) (now lengths) × (2 * length (now costs) ≤ length (now start)) × (2 * length (now costs) ≤ length (now end)) ⌝ }
+    ensures { λ _. ⌜ (now (start .exit) ≡ startColumn (length (now (costs .entry))) (placed (candidateBy bus (now (costs .entry)) (now (sources .entry)) (now (targets .entry)) (now (amounts .entry)) (now (choices .entry))) (take (2 * length (now (costs .entry))) (now (lengths .entry)))) ++ drop (2 * length (now (costs .entry))) (now (start .entry))) × (now (end .exit) ≡ endColumn (length (now (costs .entry))) (placed (candidateBy bus (now (costs .entry)) (now (sources .entry)) (now (targets .entry)) (now (amounts .entry)) (now (choices .entry))) (take (2 * length (now (costs .entry))) (now (lengths .entry)))) ++ drop (2 * length (now (costs .entry))) (now (end .entry))) ⌝ }
+{
+    for a in 0..costs.len() {
+        let r = start_at(costs, links, choices, core, words, lengths, start, end, a);
+        put_windows(costs, lengths, a, r, start, end);
+    }
 }
