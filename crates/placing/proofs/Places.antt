@@ -97,6 +97,19 @@ meet-same :
 unfolding rivalBy rivalOf overlapOf meets
 meet-same core start end words h m m' w w' s s' e e' y a b c d a' b' c' d' = cc
 
+-- a candidate's plan is within the limits
+pub ready-limits :
+    (bus : Bus) (costs sources targets amounts links choices : List ℕ)
+    → Ready bus costs sources targets amounts links choices → Limits (planBy bus costs sources targets amounts)
+ready-limits bus costs sources targets amounts links choices ready =
+    record {
+      settings = ready .settings;
+      few-tasks = ready .few;
+      few-edges = ready .edges .few;
+      costs-most = ready .costs-most;
+      amounts-most = ready .edges .amounts-most;
+    }
+
 -- the windows of the first a places of a table stand in the columns
 pub record Done (t : Table) (start₀ end₀ start end : List ℕ) (a : ℕ) : Type 0 where
   pub starts : Column (ofPhase (t .R) (t .W)) (2 * a) start₀ start
@@ -124,16 +137,6 @@ module _ (bus : Bus) (costs sources targets amounts links choices core words len
   abbrev t : Table
   t = placed c l
 
-  limits : Limits (c .plan)
-  limits =
-      record {
-        settings = ready .settings;
-        few-tasks = ready .few;
-        few-edges = ready .edges .few;
-        costs-most = ready .costs-most;
-        amounts-most = ready .edges .amounts-most;
-      }
-
   length-at : (x : ℕ) → x < 2 * k → at l x ≡ at lengths x
   length-at x h = getD-take (2 * k) lengths x 0 h
 
@@ -141,7 +144,7 @@ module _ (bus : Bus) (costs sources targets amounts links choices core words len
   room-at a h =
       omega (
         arith,
-        room-within c (coreIn choices) limits refl l (λ x m. omega (arith, length-at x m, prep .short x m)) a h,
+        room-within c (coreIn choices) (ready-limits bus costs sources targets amounts links choices ready) refl l (λ x m. omega (arith, length-at x m, prep .short x m)) a h,
         placed-top c l a (omega arith),
         length-at (2 * a) (omega arith),
         length-at (2 * a + 1) (omega arith),

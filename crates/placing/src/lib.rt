@@ -13,7 +13,8 @@ ghost use Rattle.placing.specs.Candidates.{candidateBy, Ready};
 ghost use Rattle.placing.specs.Starts.{heldBy, earliestBy, task, taskAt, endMet, metUntil, clashBy, nextBy, Starts, Room, Prepared};
 use model::Bus;
 
-fn later(x: u32, y: u32) -> u32
+// The later of two times.
+pub fn later(x: u32, y: u32) -> u32
     ensures { λ r. ⌜ r ≡ max x y ⌝ }
 {
     if x < y { y } else { x }
