@@ -1,0 +1,3 @@
+pub mod Fronts
+pub mod Growth
+pub mod Turns
