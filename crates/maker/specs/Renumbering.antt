@@ -1,7 +1,7 @@
 -- The plan in list order as the maker keeps it, in columns by list place: "Tasks are added in that order. Words count only edges
 -- between tasks already added, the new one included." (document 01, "The list rule"; `byPlace` and `added`), and the table by
 -- task, from the columns of its phases by place. Assumes nothing.
-use Prim.Native.Nat.{ℕ, zero, suc, _+_, _*_, _/_, _%_}
+use Prim.Native.Nat.{ℕ, zero, suc, _+_, _*_, _/_, _%_, _≤_, _<_}
 use mathlib.Core.Bool.{cond, _&&_}
 use mathlib.Core.List.{List}
 use lib.ListN.{length, set}
@@ -40,6 +40,14 @@ tableBy order cores start end =
       W = λ i. at start (2 * placeOf order i + 1);
       F = λ i. at end (2 * placeOf order i + 1);
     }
+
+-- every task has a place, and every place its entries
+pub record Rows (order cores start end : List ℕ) : Type 0 where
+  pub few : length order ≤ 64
+  pub placed : (i : ℕ) → i < length order → placeOf order i < length order
+  pub cores-all : length order ≤ length cores
+  pub starts-all : 2 * length order ≤ length start
+  pub ends-all : 2 * length order ≤ length end
 
 -- number x of its records of five
 unfoldable pub numberOf : Table → ℕ → ℕ

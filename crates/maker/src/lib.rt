@@ -7,7 +7,7 @@ ghost use lib.ListN.{length, drop};
 ghost use Rattle.model.specs.Below.{at, listBelow};
 ghost use Rattle.model.specs.Graph.{placeOf};
 ghost use Rattle.model.specs.Table.{bytes};
-ghost use Rattle.maker.specs.Renumbering.{costsBy, placesBy, maskedAt, maskedBy, linkedBy, tableBy, numberOf};
+ghost use Rattle.maker.specs.Renumbering.{costsBy, placesBy, maskedAt, maskedBy, linkedBy, tableBy, Rows, numberOf};
 
 fn wide(x: u16) -> u32
     ensures { λ r. ⌜ (r ≡ x) × (r < 65536) ⌝ }
@@ -116,4 +116,24 @@ fn number_at(order: &[u8], cores: &[u32], start: &[u32], end: &[u32], x: usize) 
         return start[write];
     }
     end[write]
+}
+
+fn fill_numbers(order: &[u8], cores: &[u32], start: &[u32], end: &[u32], numbers: &mut [u32])
+    requires { ⌜ Rows (now order) (now cores) (now start) (now end) × (5 * length (now order) ≤ length (now numbers)) ⌝ }
+    ensures { λ _. ⌜ now (numbers .exit) ≡ listBelow (numberOf (tableBy (now (order .entry)) (now (cores .entry)) (now (start .entry)) (now (end .entry)))) (5 * length (now (order .entry))) ++ drop (5 * length (now (order .entry))) (now (numbers .entry)) ⌝ }
+{
+    for x in 0..5 * order.len() {
+        numbers[x] = number_at(order, cores, start, end, x);
+    }
+}
+
+// The bytes of the table, at the front of a lent output.
+fn put_table(order: &[u8], cores: &[u32], start: &[u32], end: &[u32], out: &mut [u8])
+    requires { ⌜ Rows (now order) (now cores) (now start) (now end) × (20 * length (now order) ≤ length (now out)) × ((a : ℕ) → a < length (now order) → at (now cores) a < 256) ⌝ }
+    ensures { λ _. ⌜ now (out .exit) ≡ bytes (tableBy (now (order .entry)) (now (cores .entry)) (now (start .entry)) (now (end .entry))) (length (now (order .entry))) ++ drop (20 * length (now (order .entry))) (now (out .entry)) ⌝ }
+{
+    let mut numbers = [0u32; 320];
+    fill_numbers(order, cores, start, end, &mut numbers);
+    let tasks = order.len();
+    table::put_rows(&numbers[..5 * tasks], tasks, out);
 }
