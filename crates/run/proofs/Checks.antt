@@ -1,13 +1,13 @@
 -- The run's own checks are the definition's. Assumes nothing.
-use mathlib.Core.Path.{_≡_, refl, sym, ap, _∙_}
+use mathlib.Core.Path.{_≡_, refl, _∙_}
 use mathlib.Core.Bool.{Bool, true, false}
 use mathlib.Core.List.{List}
 use Prim.Native.Nat.{ℕ, _*_, _≤_, _<_}
 use lib.ListN.{length}
-use lib.Dec.{ltb, leb}
+use lib.Dec.{ltb}
 use borrow.Author.Tests.{eq-eqb, ne-eqb, le-leb, lt-leb}
 use Rattle.model.specs.Below.{firstBelow}
-use Rattle.model.specs.Refusals.{refusal, refuseIf, orElse}
+use Rattle.model.specs.Refusals.{refusal, refuseIf}
 use Rattle.model.specs.declared.Fault.the-variants.{OutputShort, ServedUnknown, WordsWrong}
 use Rattle.model.specs.declared.Side.the-variants.{OfNeither}
 use Rattle.model.specs.declared.Refusal.{Refusal}

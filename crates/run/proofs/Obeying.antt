@@ -1,7 +1,7 @@
 -- Demand 3 for what `run` writes (`run-obeys`), and that its promise settles answer and list (`run-one`). Assumes nothing.
 use mathlib.Core.Path.{_≡_, refl, sym, ap, _∙_}
 use mathlib.Core.List.{List, [], _∷_, _++_}
-use Prim.Native.Nat.{ℕ, _+_, _*_, _≤_, _<_}
+use Prim.Native.Nat.{ℕ, _+_, _*_, _<_}
 use native.Mathlib.Omega.{arith}
 use lib.ListN.{length, drop, List·getD-append}
 use Rattle.model.specs.Below.{at}
@@ -18,9 +18,8 @@ use Rattle.model.proofs.Refusals.{passed, and-then}
 use Rattle.model.proofs.RoundTrip.{blocks-at}
 use Rattle.guarantee.specs.Kept.{Guaranteed}
 use Rattle.guarantee.proofs.Guarantee.{by-phases}
-use Rattle.verifier.specs.Judging.{phaseLoads}
 use Rattle.run.specs.Obeying.{Obeys}
-use Rattle.run.proofs.Ways.{Ruled, ruled-is, check-is, answers-length, served-good, words-long, words-within}
+use Rattle.run.proofs.Ways.{ruled-is, check-is, answers-length, served-good, words-within}
 
 finished-by : (o : Outcome (List ℕ)) → playedBy o ≡ Played.Finished → (v : List ℕ) × (o ≡ gives v)
 finished-by (gives v) e = (v, refl)

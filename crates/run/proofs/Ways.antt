@@ -1,22 +1,22 @@
 -- The ways out of `run`: the answer, and the lent list after it. Assumes nothing.
-use mathlib.Core.Path.{_≡_, refl, sym, ap, _∙_}
+use mathlib.Core.Path.{_≡_, refl, sym, _∙_}
 use mathlib.Core.Bool.{Bool, true, false, not}
 use mathlib.Core.List.{List, [], _∷_, _++_}
 use Prim.Native.Nat.{ℕ, _*_, _/_, _≤_, _<_}
 use native.Mathlib.Omega.{arith}
-use lib.ListN.{length, take, drop, length-append}
+use lib.ListN.{length, take, drop}
 use lib.Seq.{take-append-seam}
 use lib.Dec.{ltb, leb, eqb}
 use borrow.Author.Tests.{ltb-false, leb-false, eqb-true}
 use Rattle.model.specs.Below.{at, firstBelow}
-use Rattle.model.specs.Refusals.{refusal, Outcome, gives, refuses, passing, andThen, orElse, refuseIf}
+use Rattle.model.specs.Refusals.{refusal, Outcome, gives, refuses, orElse, refuseIf}
 use Rattle.model.specs.Plan.{Plan, Valid, tasks, cores}
 use Rattle.model.specs.Graph.{planOf}
 use Rattle.model.specs.Table.{Table, ofNumbers, tableOf}
-use Rattle.model.specs.Contention.{Phases, ofPhase, phaseWords, phasesOf}
-use Rattle.model.specs.Rules.{rulesCheck, makespan}
+use Rattle.model.specs.Contention.{Phases, ofPhase, phasesOf}
+use Rattle.model.specs.Rules.{rulesCheck}
 use Rattle.model.specs.BusRule.{Use, answers, run, finish, waits}
-use Rattle.model.specs.Answers.{Judged, judged, Accepts, declared, servedCheck, wordsCheck, room, playing, playedBy, playedOf, playedOutput}
+use Rattle.model.specs.Answers.{Judged, judged, declared, servedCheck, wordsCheck, room, playing, playedOf, playedOutput}
 use Rattle.model.specs.declared.Bus.{Bus}
 use Rattle.model.specs.declared.Fault.the-variants.{WordsWrong}
 use Rattle.model.specs.declared.Side.the-variants.{OfNeither}
@@ -25,7 +25,6 @@ use Rattle.model.specs.declared.Check.{Check}
 use Rattle.model.specs.declared.Check.the-variants.{Good, Bad}
 use Rattle.model.specs.declared.Played.{Played}
 use Rattle.model.specs.declared.Time.{Time}
-use Rattle.model.proofs.Tests.{and-both}
 use Rattle.model.proofs.Below.{list-length, list-at, first}
 use Rattle.model.proofs.Refusals.{or-good, not-refused, passed, and-then}
 use Rattle.model.proofs.Contention.{Agree, phase-words-length}
@@ -33,8 +32,7 @@ use Rattle.model.proofs.RoundTrip.{blocks-length, InRange}
 use Rattle.model.proofs.Rules.{good-of}
 use Rattle.model.proofs.Graph.{plan-read}
 use Rattle.model.proofs.SameRun.{answers-same}
-use Rattle.contention.specs.Columns.{phasesBy, Sized}
-use Rattle.guarantee.specs.Kept.{Guaranteed}
+use Rattle.contention.specs.Columns.{phasesBy}
 use Rattle.guarantee.proofs.Lasting.{Accepted}
 use Rattle.guarantee.proofs.Guarantee.{by-phases, byRivals}
 use Rattle.guarantee.proofs.Demand.{accepted}

@@ -8,10 +8,9 @@ use Rattle.model.specs.Counts.{slots}
 use Rattle.model.specs.Refusals.{gives}
 use Rattle.model.specs.Plan.{tasks}
 use Rattle.model.specs.Table.{ofNumbers}
-use Rattle.model.specs.Contention.{Phases, phasesOf, rivals}
+use Rattle.model.specs.Contention.{phasesOf, rivals}
 use Rattle.model.specs.BusRule.{Use, run, finish, waits}
 use Rattle.model.specs.Answers.{Judged, judged}
-use Rattle.model.specs.declared.Bus.{Bus}
 use Rattle.guarantee.specs.Kept.{Guaranteed}
 
 -- `list` after a run of plan bytes p and table bytes s: of each phase x the end and the waits of the bus rule's run

@@ -1,8 +1,7 @@
 -- `vectors::tables::take_numbers` meets its contract. Each number has room in the list.
-use lib.ListN.{length, drop}
-use Prim.Native.Nat.{_≤_, _<_, _-_, _+_, _*_}
-use mathlib.Core.Path.{_≡_, refl}
-use native.Mathlib.Omega.{arith}
+use lib.ListN.{length}
+use Prim.Native.Nat.{_≤_, _-_}
+use mathlib.Core.Path.{_≡_}
 use borrow.Author.Needs.{needs}
 use Rattle.vectors.proofs.tables.take_numbers.Statement.{statement}
 use Rattle.vectors.proofs.tables.take_numbers.Tie as tie
