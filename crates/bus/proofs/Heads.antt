@@ -134,6 +134,22 @@ pub head-of : (core start left : List ℕ) (c best : ℕ) → best ≡ soonestBe
 unfolding headOf
 head-of core start left c best e = e
 
+-- by the words left of the phases below the length alone
+pub waiting-same : (core left left' : List ℕ) (c y : ℕ) → at left y ≡ at left' y → waiting core left c y ≡ waiting core left' c y
+unfolding waiting
+waiting-same core left left' c y e = ap (λ (w : ℕ). ltb 0 w && eqb (at core y) c) e
+
+pub head-same : (core start left left' : List ℕ) (c : ℕ) → length left' ≡ length left
+    → ((y : ℕ) → y < length left → waiting core left c y ≡ waiting core left' c y) → headOf core start left c ≡ headOf core start left' c
+unfolding headOf
+head-same core start left left' c e h =
+    soonest-same (at start) (waiting core left c) (waiting core left' c) (length left) (length left) h
+    ∙ ap (λ (n : ℕ). soonestBelow (at start) (waiting core left' c) n n) (sym e)
+
+pub head-soonest : (core start left : List ℕ) (c : ℕ) → Soonest (at start) (waiting core left c) (length left) (length left) (headOf core start left c)
+unfolding headOf
+head-soonest core start left c = soonest (at start) (waiting core left c) (length left) (length left) (omega arith)
+
 module _ (head : List ℕ) (n d : ℕ) where
   pub headed-yes : at head d < n → headed head n d ≡ true
   unfolding headed
@@ -152,6 +168,10 @@ module _ (start head : List ℕ) (n : ℕ) where
   unfolding leadOf
   lead-of best e = e
 
+  pub lead-soonest : Soonest (headStart start head) (headed head n) (length head) (length head) (leadOf start head n)
+  unfolding leadOf
+  lead-soonest = soonest (headStart start head) (headed head n) (length head) (length head) (omega arith)
+
   -- the best so far has a head
   pub best-headed : (i best : ℕ) → i ≤ length head → best ≡ soonestBelow (headStart start head) (headed head n) (length head) i → best < length head → at head best < n
   best-headed i best l e k =
@@ -166,6 +186,9 @@ module _ (start head : List ℕ) (n : ℕ) where
     pub asking-is : at head d < n → leb (at start (at head d)) time ≡ askingAt start head n time d
     unfolding askingAt headStart
     asking-is l = rw (headed-yes head n d l)
+
+    pub asking-yes : at head d < n → at start (at head d) ≤ time → askingAt start head n time d ≡ true
+    asking-yes l k = sym (asking-is l) ∙ le-leb (at start (at head d)) time k
 
     pub asking-head : askingAt start head n time d ≡ true → at head d < n
     unfolding askingAt

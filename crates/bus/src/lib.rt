@@ -250,3 +250,94 @@ fn copy(from: &[u32], to: &mut [u32])
         to[x] = from[x];
     }
 }
+
+fn grants(
+    bus: Bus,
+    core: &[u32],
+    start: &[u32],
+    end: &[u32],
+    words: &[u32],
+    actual: &[u32],
+    served: u32,
+    left: &mut [u32],
+    head: &mut [usize],
+    out: &mut [u32],
+)
+    requires { ⌜ Playable bus (now core) (now start) (now end) (now words) (now actual) served × (2 * length (now actual) ≤ length (now out)) × Opened bus (now core) (now start) (now actual) (now left) (now head) (now out) ⌝ }
+    ensures { λ _. ⌜ now (out .exit) ≡ answers bus (phasesBy (now (core .entry)) (now (start .entry)) (now (end .entry)) (now (words .entry)) (length (now (actual .entry)))) (record { served = served; actual = at (now (actual .entry)) }) ++ drop (2 * length (now (actual .entry))) (now (out .entry)) ⌝ }
+{
+    let mut free: u32 = 0;
+    let mut last = index(served);
+    let mut lead = lead_of(start, head, left.len());
+    while lead < head.len() {
+        let first = head[lead];
+        let time = later(free, start[first]);
+        let c = turn(start, head, left.len(), last, time);
+        free = grant(bus, core, start, time, c, left, head, out);
+        last = c;
+        lead = lead_of(start, head, left.len());
+    }
+}
+
+fn play_with(
+    bus: Bus,
+    core: &[u32],
+    start: &[u32],
+    end: &[u32],
+    words: &[u32],
+    actual: &[u32],
+    served: u32,
+    left: &mut [u32],
+    head: &mut [usize],
+    out: &mut [u32],
+)
+    requires { ⌜ Playable bus (now core) (now start) (now end) (now words) (now actual) served × (2 * length (now actual) ≤ length (now out)) × (length (now left) ≡ length (now actual)) × (length (now head) ≡ bus .cores) ⌝ }
+    ensures { λ _. ⌜ now (out .exit) ≡ answers bus (phasesBy (now (core .entry)) (now (start .entry)) (now (end .entry)) (now (words .entry)) (length (now (actual .entry)))) (record { served = served; actual = at (now (actual .entry)) }) ++ drop (2 * length (now (actual .entry))) (now (out .entry)) ⌝ }
+{
+    copy(actual, left);
+    fill_heads(core, start, left, head);
+    open_answers(start, actual.len(), out);
+    grants(
+        bus,
+        core,
+        start,
+        end,
+        words,
+        actual,
+        served,
+        left,
+        head,
+        out,
+    );
+}
+
+pub fn play(
+    bus: Bus,
+    core: &[u32],
+    start: &[u32],
+    end: &[u32],
+    words: &[u32],
+    actual: &[u32],
+    served: u32,
+    out: &mut [u32],
+)
+    requires { ⌜ Playable bus (now core) (now start) (now end) (now words) (now actual) served × (2 * length (now actual) ≤ length (now out)) ⌝ }
+    ensures { λ _. ⌜ now (out .exit) ≡ answers bus (phasesBy (now (core .entry)) (now (start .entry)) (now (end .entry)) (now (words .entry)) (length (now (actual .entry)))) (record { served = served; actual = at (now (actual .entry)) }) ++ drop (2 * length (now (actual .entry))) (now (out .entry)) ⌝ }
+{
+    let mut left = [0u32; 128];
+    let mut head = [0usize; 8];
+    let count = actual.len();
+    let cores = index(bus.cores);
+    play_with(
+        bus,
+        core,
+        start,
+        end,
+        words,
+        actual,
+        served,
+        &mut left[..count],
+        &mut head[..cores],
+        out,
+    );
+}
