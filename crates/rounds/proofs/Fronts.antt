@@ -16,6 +16,9 @@ module _ (l rest new : List ℕ) (m : ℕ) (long : length l ≡ m) (e : new ≡ 
   pub front-at : (x : ℕ) → x < m → at new x ≡ at l x
   front-at x h = ap (λ (y : List ℕ). at y x) e ∙ List·getD-append l rest 0 x (omega arith)
 
+  pub front-room : m ≤ length new
+  front-room = omega (arith, ap length e, length-append l rest)
+
   pub front-take : take m new ≡ l
   front-take = ap (take m) e ∙ take-at l rest m long
 
@@ -23,13 +26,8 @@ module _ (l rest new : List ℕ) (m : ℕ) (long : length l ≡ m) (e : new ≡ 
   front-drop = ap (drop m) e ∙ drop-at l rest m long
 
 -- in the place of the first m entries of an old column
-module _ (l old new : List ℕ) (m : ℕ) (long : length l ≡ m) (room : m ≤ length old) (e : new ≡ l ++ drop m old) where
-  pub front-same : length new ≡ length old
-  front-same = omega (arith, ap length e, length-append l (drop m old), length-drop m old)
-
-  -- a later list in its place
-  pub front-again : (k last : List ℕ) → last ≡ k ++ drop m new → last ≡ k ++ drop m old
-  front-again k last q = q ∙ ap (λ (x : List ℕ). k ++ x) (front-drop l (drop m old) new m long e)
+pub front-same : (l old new : List ℕ) (m : ℕ) → length l ≡ m → m ≤ length old → new ≡ l ++ drop m old → length new ≡ length old
+front-same l old new m long room e = omega (arith, ap length e, length-append l (drop m old), length-drop m old)
 
 -- ---- the words by the first n cores
 module _ (n : ℕ) (cores : List ℕ) (room : n ≤ length cores) where

@@ -54,7 +54,7 @@ fn fill_words(
 
 // Step 1: window lengths start at the delay with no rivals.
 fn first_lengths(bus: Bus, words: &[u32], count: usize, lengths: &mut [u32])
-    requires { ⌜ Settings bus × (count ≤ length (now words)) × (count ≤ length (now lengths)) × ((x : ℕ) → at (now words) x ≤ mostWords) ⌝ }
+    requires { ⌜ Settings bus × (count ≤ length (now words)) × (count ≤ length (now lengths)) × ((x : ℕ) → x < count → at (now words) x ≤ mostWords) ⌝ }
     ensures { λ _. ⌜ now (lengths .exit) ≡ listBelow (λ x. delayOf bus (at (now (words .entry)) x) 0) count ++ drop count (now (lengths .entry)) ⌝ }
 {
     for x in 0..count {
@@ -115,6 +115,47 @@ fn most_rounds(tasks: usize, cores: u32) -> usize
     2 * tasks * (rivals as usize)
 }
 
+// The rounds: if one window grew, all are placed anew, until none grows.
+fn run_rounds(
+    bus: Bus,
+    costs: &[u32],
+    sources: &[u8],
+    targets: &[u8],
+    amounts: &[u16],
+    links: &[u8],
+    choices: &[u32],
+    core: &[u32],
+    words: &[u32],
+    lengths: &mut [u32],
+    start: &mut [u32],
+    end: &mut [u32],
+)
+    requires { ⌜ Ready bus (now costs) (now sources) (now targets) (now amounts) (now links) (now choices) × Prepared (candidateBy bus (now costs) (now sources) (now targets) (now amounts) (now choices)) (now core) (now words) (now lengths) × Standing (candidateBy bus (now costs) (now sources) (now targets) (now amounts) (now choices)) (firstLengths (candidateBy bus (now costs) (now sources) (now targets) (now amounts) (now choices))) (now lengths) (now start) (now end) (now lengths) (now start) (now end) × (2 * length (now costs) ≤ length (now start)) × (2 * length (now costs) ≤ length (now end)) ⌝ }
+    ensures { λ _. ⌜ Standing (candidateBy bus (now (costs .entry)) (now (sources .entry)) (now (targets .entry)) (now (amounts .entry)) (now (choices .entry))) (settled (candidateBy bus (now (costs .entry)) (now (sources .entry)) (now (targets .entry)) (now (amounts .entry)) (now (choices .entry)))) (now (lengths .entry)) (now (start .entry)) (now (end .entry)) (now (lengths .exit)) (now (start .exit)) (now (end .exit)) ⌝ }
+{
+    let tasks = costs.len();
+    for n in 0..most_rounds(tasks, bus.cores) {
+        let grew = grow(bus, core, start, end, words, 2 * tasks, lengths);
+        if !grew {
+            return;
+        }
+        placing::place(
+            bus,
+            costs,
+            sources,
+            targets,
+            amounts,
+            links,
+            choices,
+            core,
+            words,
+            lengths,
+            start,
+            end,
+        );
+    }
+}
+
 // The greatest F.
 fn greatest_end(end: &[u32], tasks: usize) -> u32
     requires { ⌜ 2 * tasks ≤ length (now end) ⌝ }
@@ -125,4 +166,92 @@ fn greatest_end(end: &[u32], tasks: usize) -> u32
         most = placing::later(most, end[2 * a + 1]);
     }
     most
+}
+
+// What is fixed while the rounds run, cores and words, and the first lengths.
+fn prepare(
+    bus: Bus,
+    costs: &[u32],
+    sources: &[u8],
+    targets: &[u8],
+    amounts: &[u16],
+    links: &[u8],
+    choices: &[u32],
+    cores: &mut [u32],
+    core: &mut [u32],
+    words: &mut [u32],
+    lengths: &mut [u32],
+)
+    requires { ⌜ Ready bus (now costs) (now sources) (now targets) (now amounts) (now links) (now choices) × (length (now costs) ≤ length (now cores)) × (2 * length (now costs) ≤ length (now core)) × (2 * length (now costs) ≤ length (now words)) × (2 * length (now costs) ≤ length (now lengths)) ⌝ }
+    ensures { λ _. ⌜ (now (cores .exit) ≡ listBelow (coreIn (now (choices .entry))) (length (now (costs .entry))) ++ drop (length (now (costs .entry))) (now (cores .entry))) × (now (core .exit) ≡ listBelow (λ x. coreIn (now (choices .entry)) (x / 2)) (2 * length (now (costs .entry))) ++ drop (2 * length (now (costs .entry))) (now (core .entry))) × (now (words .exit) ≡ candidateBy bus (now (costs .entry)) (now (sources .entry)) (now (targets .entry)) (now (amounts .entry)) (now (choices .entry)) .words ++ drop (2 * length (now (costs .entry))) (now (words .entry))) × (now (lengths .exit) ≡ firstLengths (candidateBy bus (now (costs .entry)) (now (sources .entry)) (now (targets .entry)) (now (amounts .entry)) (now (choices .entry))) ++ drop (2 * length (now (costs .entry))) (now (lengths .entry))) ⌝ }
+{
+    let tasks = costs.len();
+    fill_cores(choices, tasks, cores);
+    fill_phases(choices, tasks, core);
+    fill_words(sources, targets, amounts, cores, tasks, words);
+    first_lengths(bus, words, 2 * tasks, lengths);
+}
+
+// A candidate settled: its makespan, and its cores, words, lengths and windows in the lent columns.
+pub fn settle(
+    bus: Bus,
+    costs: &[u32],
+    sources: &[u8],
+    targets: &[u8],
+    amounts: &[u16],
+    links: &[u8],
+    choices: &[u32],
+    cores: &mut [u32],
+    core: &mut [u32],
+    words: &mut [u32],
+    lengths: &mut [u32],
+    start: &mut [u32],
+    end: &mut [u32],
+) -> u32
+    requires { ⌜ Ready bus (now costs) (now sources) (now targets) (now amounts) (now links) (now choices) × (length (now costs) ≤ length (now cores)) × (2 * length (now costs) ≤ length (now core)) × (2 * length (now costs) ≤ length (now words)) × (2 * length (now costs) ≤ length (now lengths)) × (2 * length (now costs) ≤ length (now start)) × (2 * length (now costs) ≤ length (now end)) ⌝ }
+    ensures span { λ r. ⌜ r ≡ makespanOf (candidateBy bus (now (costs .entry)) (now (sources .entry)) (now (targets .entry)) (now (amounts .entry)) (now (choices .entry))) ⌝ }
+    ensures columns { λ r. ⌜ (now (cores .exit) ≡ listBelow (coreIn (now (choices .entry))) (length (now (costs .entry))) ++ drop (length (now (costs .entry))) (now (cores .entry))) × (now (core .exit) ≡ coreColumn (length (now (costs .entry))) (finished (candidateBy bus (now (costs .entry)) (now (sources .entry)) (now (targets .entry)) (now (amounts .entry)) (now (choices .entry)))) ++ drop (2 * length (now (costs .entry))) (now (core .entry))) × (now (words .exit) ≡ candidateBy bus (now (costs .entry)) (now (sources .entry)) (now (targets .entry)) (now (amounts .entry)) (now (choices .entry)) .words ++ drop (2 * length (now (costs .entry))) (now (words .entry))) × (now (lengths .exit) ≡ settled (candidateBy bus (now (costs .entry)) (now (sources .entry)) (now (targets .entry)) (now (amounts .entry)) (now (choices .entry))) ++ drop (2 * length (now (costs .entry))) (now (lengths .entry))) × (now (start .exit) ≡ startColumn (length (now (costs .entry))) (finished (candidateBy bus (now (costs .entry)) (now (sources .entry)) (now (targets .entry)) (now (amounts .entry)) (now (choices .entry)))) ++ drop (2 * length (now (costs .entry))) (now (start .entry))) × (now (end .exit) ≡ endColumn (length (now (costs .entry))) (finished (candidateBy bus (now (costs .entry)) (now (sources .entry)) (now (targets .entry)) (now (amounts .entry)) (now (choices .entry)))) ++ drop (2 * length (now (costs .entry))) (now (end .entry))) ⌝ }
+{
+    prepare(
+        bus,
+        costs,
+        sources,
+        targets,
+        amounts,
+        links,
+        choices,
+        cores,
+        core,
+        words,
+        lengths,
+    );
+    placing::place(
+        bus,
+        costs,
+        sources,
+        targets,
+        amounts,
+        links,
+        choices,
+        core,
+        words,
+        lengths,
+        start,
+        end,
+    );
+    run_rounds(
+        bus,
+        costs,
+        sources,
+        targets,
+        amounts,
+        links,
+        choices,
+        core,
+        words,
+        lengths,
+        start,
+        end,
+    );
+    greatest_end(end, costs.len())
 }

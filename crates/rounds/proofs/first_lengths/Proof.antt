@@ -28,7 +28,7 @@ shared-slice-read-t10 : tie.Need-shared-slice-read-t10 Inv-loop μ-loop
 shared-slice-read-t10 c = search needs
 
 delay-requires : tie.Need-delay-requires Inv-loop μ-loop
-delay-requires c κs = let s = c .before .before .before .before .before in (s .pre .0, s .pre .3 _, omega arith)
+delay-requires c κs = let s = c .before .before .before .before .before in (s .pre .0, s .pre .3 _ (c .before .loop-test .taken), omega arith)
 
 mul-lengths : tie.Need-mul-lengths Inv-loop μ-loop
 mul-lengths c = search needs
