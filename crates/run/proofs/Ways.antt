@@ -4,7 +4,7 @@ use mathlib.Core.Bool.{Bool, true, false, not}
 use mathlib.Core.List.{List, [], _∷_, _++_}
 use Prim.Native.Nat.{ℕ, _*_, _/_, _≤_, _<_}
 use native.Mathlib.Omega.{arith}
-use lib.ListN.{length, take, drop}
+use lib.ListN.{length, take, drop, length-append}
 use lib.Seq.{take-append-seam}
 use lib.Dec.{ltb, leb, eqb}
 use borrow.Author.Tests.{ltb-false, leb-false, eqb-true}
@@ -99,6 +99,12 @@ module _ (p s : List ℕ) (j : Judged) (e : judged p s ≡ gives j) where
       let c = f (j .plan) (ofNumbers (j .table)) in
       let k : 2 * n ≡ length c = omega (arith, en, l) in
       rw (q, column-is f old, k) (take-append-seam c (drop (length c) old))
+
+  pub front-room : (f : Plan → Table → List ℕ) (old new : List ℕ) (n : ℕ) → n ≡ tasks (j .plan) → length (f (j .plan) (ofNumbers (j .table))) ≡ 2 * tasks (j .plan)
+      → new ≡ columnOf f p s old → 2 * n ≤ length new
+  front-room f old new n en l q =
+      let c = f (j .plan) (ofNumbers (j .table)) in
+      rw (q, column-is f old) (omega (arith, en, l, length-append c (drop (length c) old)))
 
   pub front-cores : (old new : List ℕ) (n : ℕ) → n ≡ tasks (j .plan) → new ≡ columnOf phaseCores p s old → take (2 * n) new ≡ phaseCores (j .plan) (ofNumbers (j .table))
   front-cores old new n en = front phaseCores old new n en (list-length _ (2 * tasks (j .plan)))

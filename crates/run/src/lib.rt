@@ -4,11 +4,14 @@ ghost use Prim.Native.Nat.{_≤_, _<_};
 ghost use lib.ListN.{length};
 ghost use Rattle.model.specs.Below.{firstBelow};
 ghost use Rattle.model.specs.Refusals.{refuseIf};
+ghost use Rattle.model.specs.Answers.{playedOf, playedOutput};
 ghost use Rattle.run.specs.Checks.{overAt, wordsBy, runBy};
 use model::Check;
 use model::Fault;
+use model::Played;
 use model::Refusal;
 use model::Side;
+use verifier::Judgement;
 
 fn refuse_if(bad: bool, fault: Fault, place: usize) -> Check
     ensures { λ r. ⌜ r ≡ refuseIf bad (record { fault = fault; side = Side.OfNeither; place = place }) ⌝ }
@@ -69,4 +72,40 @@ fn run_check(cores: u32, served: u32, most: &[u32], words: &[u32], room: usize) 
         return Check::Bad(r);
     }
     refuse_if(room < 2 * most.len(), Fault::OutputShort, 0)
+}
+
+// The bus run: of every phase its end and its waits, 4n numbers at the front of a lent list.
+pub fn run(plan: &[u8], table: &[u8], served: u32, words: &[u32], out: &mut [u32]) -> Played
+    ensures answer { λ r. ⌜ r ≡ playedOf (now (plan .entry)) (now (table .entry)) served (now (words .entry)) (now (out .entry)) ⌝ }
+    ensures output { λ r. ⌜ now (out .exit) ≡ playedOutput (now (plan .entry)) (now (table .entry)) served (now (words .entry)) (now (out .entry)) ⌝ }
+{
+    let mut core = [0u32; 128];
+    let mut start = [0u32; 128];
+    let mut end = [0u32; 128];
+    let mut most = [0u32; 128];
+    match verifier::judge(plan, table, &mut core, &mut start, &mut end, &mut most) {
+        Judgement::Obeys {
+            bus,
+            tasks,
+            makespan: _,
+        } => {
+            let count = 2 * tasks;
+            let checked = run_check(bus.cores, served, &most[..count], words, out.len());
+            if let Check::Bad(r) = checked {
+                return Played::Refused(r);
+            }
+            bus::play(
+                bus,
+                &core[..count],
+                &start[..count],
+                &end[..count],
+                &most[..count],
+                words,
+                served,
+                out,
+            );
+            Played::Finished
+        }
+        Judgement::Refused(r) => Played::Refused(r),
+    }
 }
