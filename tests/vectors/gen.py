@@ -69,6 +69,13 @@ def verify(data, table):
     add(5, [data, table, b''], 'verify' + (refused(said) if said[0] else joined(said[3])))
 
 
+# ---- kind 6: a table played, with a core served last and word counts, into a lent list of a length
+def run(data, table, served, words, room):
+    said, out = d.run(data, table, served, words, [9] * room)
+    given = d.octets(room, 2) + d.octets(served, 4) + b''.join(d.octets(x, 4) for x in words)
+    add(6, [data, table, given], 'run' + answered(said) + ' list' + joined(out))
+
+
 def header(cores=2, t=3, words=3):
     return d.field(1, bytes([cores, t, words]))
 
@@ -234,9 +241,56 @@ def judged():
         verify(data, d.table_bytes(rows))
 
 
+def played():
+    first = d.table_bytes(reads_b((13, 23), (13, 23)))
+    whole = [0, 8, 4, 0, 4, 0]
+    for served in range(3):
+        run(PLAN_B, first, served, whole, 12)
+        run(PLAN_B, first, served, [0, 8, 1, 0, 4, 0], 14)
+        run(PLAN_B, first, served, [0, 3, 4, 0, 0, 0], 12)
+        run(PLAN_B, first, served, [0] * 6, 12)
+    run(header(), b'', 1, [], 0)
+    run(header(), b'', 1, [], 3)
+    # 16, 17 by length and by index, 8; and which comes first
+    run(PLAN_B, first, 3, whole, 12)
+    run(PLAN_B, first, FAR, whole, 12)
+    run(PLAN_B, first, 2, whole[:5], 12)
+    run(PLAN_B, first, 2, whole + [0], 12)
+    run(PLAN_B, first, 2, [], 12)
+    for x in range(6):
+        run(PLAN_B, first, 2, whole[:x] + [whole[x] + 1] + whole[x + 1:], 12)
+    run(PLAN_B, first, 2, [FAR] * 6, 12)
+    run(PLAN_B, first, 2, whole, 11)
+    run(PLAN_B, first, 2, whole, 0)
+    run(PLAN_B, first, 3, [9], 0)
+    run(PLAN_B, first, 2, [9], 0)
+    run(PLAN_B, first, 2, [0, 9, 9, 0, 4, 0], 0)
+    run(PLAN_B, first[:40], 3, whole, 0)
+    run(PLAN_B, d.table_bytes(reads_b((13, 22), (13, 22))), 3, whole, 12)
+    run(b'', first, 3, whole, 12)
+    # phases that ask while a grant is on the bus, and at the instant at which one ends; words in several grants
+    for start in range(10, 26):
+        apart = d.plan_bytes(3, 3, 3, [1, 1, 1, 1], [(0, 2, 7), (1, 3, 5)])
+        rows = [(0, 0, 0, 1, 21), (1, start - 10, start - 10, start - 9, start + 5), (2, 40, 60, 61, 61), (0, 40, 60, 61, 61)]
+        for served in range(3):
+            run(apart, d.table_bytes(rows), served, [0, 7, 0, 5, 7, 0, 5, 0], 16)
+    rng = random.Random(13)
+    for _ in range(40):
+        n = rng.randint(1, 7)
+        cores = rng.randint(1, 4)
+        ends = sorted({(rng.randrange(n), rng.randrange(n)) for _ in range(rng.randint(0, 9))})
+        data = d.plan_bytes(cores, rng.choice([2, 4, 6]), 2, [rng.randint(1, 6) for _ in range(n)], [(s, t, rng.randint(0, 12)) for s, t in ends if s < t])
+        _, table = d.make(data, bytes(20 * n))
+        plan_read = d.parse_plan(data)
+        declared = d.all_words(plan_read, d.read_table(plan_read, table))
+        most = [declared[i][p] for i in range(n) for p in (0, 1)]
+        run(data, table, rng.randrange(cores), [rng.randint(0, w) if rng.random() < 0.5 else w for w in most], 4 * n)
+
+
 plans()
 tables()
 judged()
+played()
 with open(os.path.join(ROOT, 'stdin'), 'wb') as f:
     f.write(b''.join(data for data, _ in cases))
 with open(os.path.join(ROOT, 'stdout'), 'w') as f:

@@ -4,6 +4,7 @@ ghost use Prim.Native.Nat.{_+_, _<_, _≤_};
 ghost use lib.ListN.{length};
 
 mod plans;
+mod runs;
 mod tables;
 mod text;
 
@@ -50,8 +51,10 @@ fn show(kind: u8, first: &[u8], second: &[u8], third: &[u8]) {
         tables::show_read(first, second, small(third));
     } else if kind == 4 {
         tables::show_write(first, second, small(third));
-    } else {
+    } else if kind == 5 {
         tables::show_verify(first, second);
+    } else {
+        runs::show_run(first, second, third);
     }
 }
 
