@@ -29,7 +29,7 @@ grow-at-requires : tie.Need-grow-at-requires Inv-loop μ-loop
 grow-at-requires c κs =
     let s = c .before .before .before .before .before .before .before .before in
     let d : ℕ → ℕ = λ y. delayAt (s .args .bus) (phasesBy (s .args .core .now) (s .args .start .now) (s .args .end .now) (s .args .words .now) (s .args .count)) y in
-    (s .pre .0, s .pre .1, c .before .loop-test .taken, s .pre .2 _ (c .before .loop-test .taken), omega (arith, s .pre .3, c .before .loop-test .taken, is-column (λ y. max (at (s .args .lengths .now) y) (d y)) (c .before .before .loop .x) (s .args .lengths .now) (omega (arith, s .pre .3, c .before .loop-test .taken)) _ (c .before .before .loop .inv .2) .long))
+    (s .pre .0, s .pre .1, omega (arith, c .before .loop-test .taken), s .pre .2 _ (omega (arith, c .before .loop-test .taken)), omega (arith, s .pre .3, c .before .loop-test .taken, is-column (λ y. max (at (s .args .lengths .now) y) (d y)) (c .before .before .loop .x) (s .args .lengths .now) (omega (arith, s .pre .3, c .before .loop-test .taken)) _ (c .before .before .loop .inv .2) .long))
 
 add-x : tie.Need-add-x Inv-loop μ-loop
 add-x c = search needs
