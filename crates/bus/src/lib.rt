@@ -2,7 +2,7 @@
 // them stand the words that each phase has left, and each core's head: of its phases with words left the one that starts first.
 ghost use mathlib.Core.Path.{_≡_};
 ghost use mathlib.Core.List.{_++_};
-ghost use Prim.Native.Nat.{ℕ, _+_, _*_, _<_, _≤_, min, max};
+ghost use Prim.Native.Nat.{_+_, _*_, _<_, _≤_, min, max};
 ghost use lib.ListN.{length, drop};
 ghost use Rattle.model.specs.Below.{at, listBelow};
 ghost use Rattle.model.specs.Counts.{D, Settings};
