@@ -2,7 +2,7 @@
 // them stand the words that each phase has left, and each core's head: of its phases with words left the one that starts first.
 ghost use mathlib.Core.Path.{_≡_};
 ghost use mathlib.Core.List.{_++_};
-ghost use Prim.Native.Nat.{ℕ, _+_, _*_, _<_, _≤_, min, max};
+ghost use Prim.Native.Nat.{_+_, _*_, _<_, _≤_, min, max};
 ghost use lib.ListN.{length, drop};
 ghost use Rattle.model.specs.Below.{at, listBelow};
 ghost use Rattle.model.specs.Counts.{D, Settings};
@@ -66,6 +66,7 @@ fn head_of(core: &[u32], start: &[u32], left: &[u32], c: usize) -> usize
     best
 }
 
+// The head of each core.
 fn fill_heads(core: &[u32], start: &[u32], left: &[u32], head: &mut [usize])
     requires { ⌜ Phased (now core) (now start) (now left) × (length (now head) ≤ 8) ⌝ }
     ensures { λ _. ⌜ now (head .exit) ≡ listBelow (headOf (now (core .entry)) (now (start .entry)) (now (left .entry))) (length (now (head .entry))) ⌝ }
@@ -107,6 +108,7 @@ fn lead_of(start: &[u32], head: &[usize], count: usize) -> usize
 }
 
 // ---- the turn
+// The i-th core after the last served, going round.
 fn after(cores: usize, last: usize, i: usize) -> usize
     requires { ⌜ (last < cores) × (i ≤ cores) × (cores ≤ 8) ⌝ }
     ensures { λ r. ⌜ r ≡ afterOf cores last i ⌝ }
@@ -118,6 +120,7 @@ fn after(cores: usize, last: usize, i: usize) -> usize
     c - cores
 }
 
+// Core d asks at a time: its head has started.
 fn asking(start: &[u32], head: &[usize], count: usize, time: u32, d: usize) -> bool
     requires { ⌜ Headed (now start) (now head) count × (d < length (now head)) ⌝ }
     ensures { λ r. ⌜ r ≡ askingAt (now (start .entry)) (now (head .entry)) count time d ⌝ }
@@ -146,6 +149,7 @@ fn turn(start: &[u32], head: &[usize], count: usize, last: usize, time: u32) -> 
 }
 
 // ---- a grant
+// What a phase sends of the words that it has left: D of them, or all.
 fn part_of_slot(bus: Bus, left: Words) -> Words
     ensures { λ r. ⌜ r .0 ≡ min (D bus) (left .0) ⌝ }
 {
@@ -187,6 +191,7 @@ fn add_wait(
     out[i] += 1;
 }
 
+// One wait more for each core's head that sits through a grant to core c that ends at `ends`.
 fn add_waits(start: &[u32], head: &[usize], count: usize, c: usize, ends: u32, out: &mut [u32])
     requires { ⌜ Headed (now start) (now head) count × Raisable (now head) count (now out) ⌝ }
     ensures { λ _. ⌜ now (out .exit) ≡ withWaits (now (start .entry)) (now (head .entry)) count c ends (length (now (head .entry))) (now (out .entry)) ⌝ }
@@ -206,7 +211,7 @@ fn renew_head(core: &[u32], start: &[u32], left: &[u32], c: usize, x: usize, hea
     }
 }
 
-// A grant to core c at `time`; its end.
+// A grant to core c's head at `time`: the waits of the others, its end, its words, and the next head; the end is given back.
 fn grant(
     bus: Bus,
     core: &[u32],
@@ -231,6 +236,7 @@ fn grant(
 }
 
 // ---- the run
+// Before the first grant each phase ends at its start, with no waits.
 fn open_answers(start: &[u32], count: usize, out: &mut [u32])
     requires { ⌜ (count ≤ 128) × (count ≤ length (now start)) × (2 * count ≤ length (now out)) ⌝ }
     ensures { λ _. ⌜ now (out .exit) ≡ opened (now (start .entry)) count ++ drop (2 * count) (now (out .entry)) ⌝ }
@@ -242,6 +248,7 @@ fn open_answers(start: &[u32], count: usize, out: &mut [u32])
     }
 }
 
+// All of a column, into another.
 fn copy(from: &[u32], to: &mut [u32])
     requires { ⌜ length (now to) ≡ length (now from) ⌝ }
     ensures { λ _. ⌜ now (to .exit) ≡ (now (from .entry)) ⌝ }
@@ -251,6 +258,8 @@ fn copy(from: &[u32], to: &mut [u32])
     }
 }
 
+// Grant by grant, until no phase has words left. No code reads the ends and the declared words: what is required of the run, and what
+// keeps its times in range, speaks of them.
 fn grants(
     bus: Bus,
     core: &[u32],
@@ -279,6 +288,7 @@ fn grants(
     }
 }
 
+// The run, in lent columns for the words left and the heads.
 fn play_with(
     bus: Bus,
     core: &[u32],
@@ -311,6 +321,8 @@ fn play_with(
     );
 }
 
+// The run of a table's phases: end and waits of each, in the order of the phases, at the front of `out`. Choosing a grant takes
+// time in the order of the cores; the phases of a core are searched when its head has sent its words.
 pub fn play(
     bus: Bus,
     core: &[u32],
