@@ -3,6 +3,7 @@
 use mathlib.Core.Path.{_≡_, refl, sym, ap, _∙_}
 use mathlib.Core.Bool.{Bool, true, false, not, _&&_, _||_}
 use mathlib.Core.List.{List}
+use mathlib.Core.Logic.{inl, inr}
 use Prim.Native.Nat.{ℕ, zero, suc, _+_, _*_, _-_, _≤_}
 use native.Mathlib.Omega.{arith}
 use lib.ListN.{length}
@@ -12,10 +13,11 @@ use Rattle.model.specs.Refusals.{numberOf, refusal, refuseIf, orElse, fi
 use Rattle.model.specs.Field.{two, bodyOf, stepIn, planStep, tableStep}
 use Rattle.model.specs.Plan.{Plan, tasks, cores, keyOf, settingsGood, inOrder, headerIn, taskIn, edgeIn, fieldBy, fieldOf, seen, onWith, withBus, withTask, withEdge, fieldsFrom, readingFrom, readingOf, noPlan}
 use Rattle.model.specs.Graph.{leftOver, planOf}
-use Rattle.model.specs.Table.{ofNumbers, ofBytes, nonFalling, valuesOf, rowBy, rowAt, rowsCheck, tableCheck, tableOf, numbers}
+use Rattle.model.specs.Table.{Table, ofNumbers, ofBytes, nonFalling, valuesOf, rowBy, rowAt, rowsCheck, tableCheck, tableOf, numbers}
 use Rattle.model.specs.Rules.{RuleBroken}
-use Rattle.model.specs.Answers.{judged, verdictOf}
-use Rattle.model.specs.declared.Fault.the-variants.{Cyclic, FieldCount, CoreUnknown, MarksFalling}
+use Rattle.model.specs.Answers.{judged, verdictOf, Breaks}
+use Rattle.model.specs.declared.Fault.{Fault}
+use Rattle.model.specs.declared.Fault.the-variants.{FieldCut, TagUnknown, LengthWrong, ValueOutOfRange, EdgesNotRising, TooMany, Cyclic, OutputShort, FieldCount, CoreUnknown, MarksFalling, ExecuteShort, ReadEarly, SpansCross, WindowShort, ServedUnknown, WordsWrong}
 use Rattle.model.specs.declared.Side.{Side}
 use Rattle.model.specs.declared.Side.the-variants.{OfPlan, OfTable}
 use Rattle.model.specs.declared.Refusal.{Refusal}
@@ -27,7 +29,7 @@ use Rattle.model.specs.declared.Taken.the-variants.{Header, Task, Edge, 
 use Rattle.model.specs.declared.Step.{Step}
 use Rattle.model.specs.declared.Step.the-variants.{Field, End, Broken}
 use Rattle.model.specs.declared.Verdict.{Verdict}
-use Rattle.model.proofs.Tests.{either}
+use Rattle.model.proofs.Tests.{either, lt-or-ge}
 use Rattle.model.proofs.Refusals.{refused, stopped}
 use Rattle.model.proofs.Verdicts.{broken-facts, broken-test}
 
@@ -171,13 +173,6 @@ table-most p s {r} e =
     rw b at (rows-most (cores p) (tasks p) s)
 
 -- ---- 12 to 15: exactly where plan and table read and the refusal names the rule that is first broken
-pub record Ruling (p s : List ℕ) (r : Refusal) : Type 0 where
-  pub plan : Plan
-  pub table : List ℕ
-  pub planned : planOf p ≡ gives plan
-  pub read : tableOf plan s ≡ gives table
-  pub broken : RuleBroken plan (ofNumbers table) r
-
 abbrev saidBy : Verdict → ℕ
 saidBy (Verdict.Accepted m) = 0
 saidBy (Verdict.Refused r) = numbered r
@@ -190,18 +185,51 @@ table-said : (p s : List ℕ) (plan : Plan) {r : Refusal} → planOf p ≡ gives
 unfolding verdictOf judged
 table-said p s plan e q = rw (e, q)
 
-pub rule-facts : (p s : List ℕ) (r : Refusal) → verdictOf p s ≡ Verdict.Refused r → 12 ≤ numbered r → Ruling p s r
+pub rule-facts : (p s : List ℕ) (r : Refusal) → verdictOf p s ≡ Verdict.Refused r → 12 ≤ numbered r → Breaks p s r
 rule-facts p s r e m = by (planOf p) refl
   where
-    read : (plan : Plan) → planOf p ≡ gives plan → (o : Outcome (List ℕ)) → tableOf plan s ≡ o → Ruling p s r
+    read : (plan : Plan) → planOf p ≡ gives plan → (o : Outcome (List ℕ)) → tableOf plan s ≡ o → Breaks p s r
     read plan ep (gives v) ev =
         record { plan = plan; table = v; planned = ep; read = ev; broken = broken-facts p s plan v ep ev e }
     read plan ep (refuses q) ev =
         absurd (omega (arith, table-most plan s ev, ap saidBy (sym e ∙ table-said p s plan ep ev)))
 
-    by : (o : Outcome Plan) → planOf p ≡ o → Ruling p s r
+    by : (o : Outcome Plan) → planOf p ≡ o → Breaks p s r
     by (gives plan) ep = read plan ep (tableOf plan s) refl
     by (refuses q) ep = absurd (omega (arith, plan-most p ep, ap saidBy (sym e ∙ plan-said p s ep)))
 
-pub rule-test : (p s : List ℕ) (r : Refusal) → Ruling p s r → verdictOf p s ≡ Verdict.Refused r
+pub rule-test : (p s : List ℕ) (r : Refusal) → Breaks p s r → verdictOf p s ≡ Verdict.Refused r
 rule-test p s r b = broken-test p s (b .plan) (b .table) (b .planned) (b .read) (b .broken)
+
+-- ---- every refusal has a number, and the verifier's are 15 at most
+pub numbered-some : (r : Refusal) → 1 ≤ numbered r
+numbered-some r = some (r .fault)
+  where
+    some : (f : Fault) → 1 ≤ numberOf f
+    some FieldCut = omega arith
+    some TagUnknown = omega arith
+    some LengthWrong = omega arith
+    some ValueOutOfRange = omega arith
+    some EdgesNotRising = omega arith
+    some TooMany = omega arith
+    some Cyclic = omega arith
+    some OutputShort = omega arith
+    some FieldCount = omega arith
+    some CoreUnknown = omega arith
+    some MarksFalling = omega arith
+    some ExecuteShort = omega arith
+    some ReadEarly = omega arith
+    some SpansCross = omega arith
+    some WindowShort = omega arith
+    some ServedUnknown = omega arith
+    some WordsWrong = omega arith
+
+broken-most : (p : Plan) (t : Table) (r : Refusal) → RuleBroken p t r → numbered r ≤ 15
+broken-most p t r (inl b) = omega (arith, ap numbered (b .named))
+broken-most p t r (inr (inl b)) = omega (arith, ap numbered (b .named))
+broken-most p t r (inr (inr (inl b))) = omega (arith, ap numbered (b .named))
+broken-most p t r (inr (inr (inr b))) = omega (arith, ap numbered (b .named))
+
+pub verdict-most : (p s : List ℕ) (r : Refusal) → verdictOf p s ≡ Verdict.Refused r → numbered r ≤ 15
+verdict-most p s r e =
+    lt-or-ge (numbered r) 12 (λ k. omega arith) (λ k. let b = rule-facts p s r e k in broken-most (b .plan) (ofNumbers (b .table)) r (b .broken))

@@ -13,7 +13,7 @@ use Rattle.model.specs.Plan.{Plan, tasks, cores}
 use Rattle.model.specs.Graph.{planOf}
 use Rattle.model.specs.Table.{bytes, ofNumbers, tableOf, valuesCheck}
 use Rattle.model.specs.Contention.{phaseWords, phasesOf}
-use Rattle.model.specs.Rules.{GoodTable, rulesCheck, makespan, Greatest}
+use Rattle.model.specs.Rules.{GoodTable, rulesCheck, RuleBroken, makespan, Greatest}
 use Rattle.model.specs.ListRule.{madeBytes, madeMakespan}
 use Rattle.model.specs.BusRule.{answers}
 use Rattle.model.specs.declared.Fault.the-variants.{OutputShort, ServedUnknown, WordsWrong}
@@ -105,6 +105,15 @@ pub record Accepts (p s : List ℕ) (m : ℕ) : Type 0 where
   pub read : tableOf plan s ≡ gives table
   pub good : GoodTable plan (ofNumbers table)
   pub greatest : Greatest (ofNumbers table .F) (tasks plan) m
+
+-- what a table is refused for by 12 to 15 (proofs/Numbers.antt): plan and table read, and the refusal names the rule that is
+-- first broken, and where
+pub record Breaks (p s : List ℕ) (r : Refusal) : Type 0 where
+  pub plan : Plan
+  pub table : List ℕ
+  pub planned : planOf p ≡ gives plan
+  pub read : tableOf plan s ≡ gives table
+  pub broken : RuleBroken plan (ofNumbers table) r
 
 -- ---- "The maker: plan, then 8."
 unfoldable pub making : List ℕ → List ℕ → Outcome Plan
