@@ -136,7 +136,13 @@ module _ (c : Candidate) (core : ℕ → ℕ) (h : Limits (c .plan)) (told : c .
       (λ e. rw (of-write (readWords (c .plan) core) (writeWords (c .plan) core) x e) (omega (arith, w, writes-all (c .plan) core count, all-words)))))
       (λ l. rw (at-past (c .words) x (omega (arith, ap length told, phase-words-length (c .plan) core))) zero-le)
 
-  -- lengths of at most 512 for each word
+  -- a length after any number of rounds is at most 512 for each word
+  pub rounds-short : (n x : ℕ) → x < 2 * count → at (rounds c n) x ≤ 512 * at (c .words) x
+  rounds-short n x k =
+      let r = round-length c n x k in
+      rw (r .2) (delay-most (c .plan .bus) (h .settings) (at (c .words) x) (r .0) (r .1))
+
+  -- lengths that are
   module _ (l : List ℕ) (short : (x : ℕ) → x < 2 * count → at l x ≤ 512 * at (c .words) x) where
     spans-most : sumBelow (spanAt c l) count ≤ 1077673920
     spans-most =
@@ -174,25 +180,26 @@ module _ (q : Plan) (h : Limits q) (choices : List ℕ) (some : length choices �
   long : tasks (c .plan) ≡ length choices
   long = candidate-tasks q choices some
 
+  limits : Limits (c .plan)
+  limits = candidate-limits q choices h
+
+  told : c .words ≡ phaseWords (c .plan) (coreIn choices)
+  told = candidate-words q choices
+
   short : (x : ℕ) → x < 2 * tasks (c .plan) → at l x ≤ 512 * at (c .words) x
-  short x k =
-      let r = round-length c n x k in
-      rw (r .2) (delay-most (c .plan .bus) (candidate-limits q choices h .settings) (at (c .words) x) (r .0) (r .1))
+  short = rounds-short c (coreIn choices) limits told n
 
   pub words-most : (x : ℕ) → at (c .words) x ≤ mostWords
-  words-most x = words-within c (coreIn choices) (candidate-limits q choices h) (candidate-words q choices) x
+  words-most = words-within c (coreIn choices) limits told
 
   pub length-most : (x : ℕ) → x < 2 * length choices → at l x ≤ 512 * at (c .words) x
   length-most x k = short x (omega (arith, long))
 
   pub room-fits : (a : ℕ) → a < length choices → makespan a (windows c l (startsOf c l a)) + spanAt c l a < 2147483648
-  room-fits a k =
-      omega (arith, room-within c (coreIn choices) (candidate-limits q choices h) (candidate-words q choices) l short a (omega (arith, long)))
+  room-fits a k = omega (arith, room-within c (coreIn choices) limits told l short a (omega (arith, long)))
 
   pub tops-fit : (a : ℕ) → a ≤ length choices → makespan a (windows c l (startsOf c l a)) < 2147483648
-  tops-fit a k =
-      omega (arith, top-within c (coreIn choices) (candidate-limits q choices h) (candidate-words q choices) l short a (omega (arith, long)))
+  tops-fit a k = omega (arith, top-within c (coreIn choices) limits told l short a (omega (arith, long)))
 
   pub marks-fit : (a : ℕ) → a < length choices → placed c l .F a < 2147483648
-  marks-fit a k =
-      omega (arith, mark-within c (coreIn choices) (candidate-limits q choices h) (candidate-words q choices) l short a (omega (arith, long)))
+  marks-fit a k = omega (arith, mark-within c (coreIn choices) limits told l short a (omega (arith, long)))
