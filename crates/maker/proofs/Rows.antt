@@ -3,14 +3,18 @@ use mathlib.Core.Path.{_≡_, refl, sym, ap, _∙_}
 use mathlib.Core.List.{List, [], _++_}
 use Prim.Native.Nat.{ℕ, _+_, _*_, _/_, _%_, _≤_, _<_}
 use native.Mathlib.Omega.{arith}
-use lib.ListN.{length, take, drop, length-append}
-use lib.Seq.{take-append-seam}
+use lib.ListN.{length, take, List·getD-append}
 use borrow.Author.Tests.{ne-eqb}
 use Rattle.model.specs.Below.{at, listBelow}
 use Rattle.model.specs.Table.{Table, ofNumbers, bytesAt, bytes}
 use Rattle.model.proofs.Below.{join-cong, list-length, list-at}
+use Rattle.model.proofs.Contention.{of-even, of-odd}
+use Rattle.contention.specs.Columns.{startColumn, endColumn}
+use Rattle.model.specs.Graph.{placeOf}
 use Rattle.model.proofs.RoundTrip.{SameTable}
-use Rattle.maker.specs.Renumbering.{numberOf}
+use Rattle.maker.specs.Renumbering.{tableBy, numberOf}
+use Rattle.maker.specs.Choosing.{byTask, Ordered}
+use Rattle.maker.proofs.Fills.{fill-take, fill-count}
 
 -- ---- number x, by the mark that it is
 module _ (t : Table) (x : ℕ) where
@@ -40,12 +44,10 @@ module _ (t : Table) (n : ℕ) (all old : List ℕ) (e : all ≡ listBelow (numb
   v = take (5 * n) all
 
   taken : v ≡ listBelow (numberOf t) (5 * n)
-  taken =
-      let long = list-length (numberOf t) (5 * n) in
-      rw e (ap (λ (k : ℕ). take k (listBelow (numberOf t) (5 * n) ++ old)) (sym long) ∙ take-append-seam (listBelow (numberOf t) (5 * n)) old)
+  taken = fill-take (numberOf t) (5 * n) old all e
 
   pub numbers-long : 5 * n ≡ length v
-  numbers-long = rw taken (sym (list-length (numberOf t) (5 * n)))
+  numbers-long = fill-count (numberOf t) (5 * n) old all e
 
   at-is : (f : ℕ → ℕ) (i x : ℕ) → i < n → x < 5 * n → x / 5 ≡ i → f (x / 5) ≡ numberOf t x → at v x ≡ f i
   at-is f i x h l q m = rw (taken, ← q) (list-at (numberOf t) (5 * n) x l ∙ sym m)
@@ -67,3 +69,20 @@ module _ (t : Table) (n : ℕ) (all old : List ℕ) (e : all ≡ listBelow (numb
 pub bytes-same : (n : ℕ) (t u : Table) → SameTable n t u → bytes t n ≡ bytes u n
 bytes-same n t u s =
     join-cong _++_ [] (bytesAt t) (bytesAt u) n (λ i h. rw (s .core i h, s .R i h, s .E i h, s .W i h, s .F i h))
+
+pub at-front : (f : ℕ → ℕ) (m : ℕ) (l rest : List ℕ) (x : ℕ) → l ≡ listBelow f m ++ rest → x < m → at l x ≡ f x
+at-front f m l rest x e h =
+    rw e (List·getD-append (listBelow f m) rest 0 x (omega (arith, list-length f m)) ∙ list-at f m x h)
+
+-- ---- the columns that a settled candidate leaves are its table
+module _ (n : ℕ) (order cores start end : List ℕ) (t : Table) (o : Ordered n order) (restc rests reste : List ℕ)
+    (ec : cores ≡ listBelow (t .core) n ++ restc) (es : start ≡ startColumn n t ++ rests) (ee : end ≡ endColumn n t ++ reste) where
+  pub columns-are : SameTable n (tableBy order cores start end) (byTask order t)
+  columns-are =
+      record {
+        core = λ i h. at-front (t .core) n cores restc _ ec (o .placed i h);
+        R = λ i h. at-front _ (2 * n) start rests _ es (omega (arith, o .placed i h)) ∙ of-even (t .R) (t .W) (placeOf order i);
+        E = λ i h. at-front _ (2 * n) end reste _ ee (omega (arith, o .placed i h)) ∙ of-even (t .E) (t .F) (placeOf order i);
+        W = λ i h. at-front _ (2 * n) start rests _ es (omega (arith, o .placed i h)) ∙ of-odd (t .R) (t .W) (placeOf order i);
+        F = λ i h. at-front _ (2 * n) end reste _ ee (omega (arith, o .placed i h)) ∙ of-odd (t .E) (t .F) (placeOf order i);
+      }

@@ -2,12 +2,22 @@
 // the read of place a, 2a + 1 its write.
 ghost use mathlib.Core.Path.{_≡_};
 ghost use mathlib.Core.List.{_++_};
-ghost use Prim.Native.Nat.{ℕ, _+_, _*_, _/_, _≤_, _<_};
-ghost use lib.ListN.{length, drop};
-ghost use Rattle.model.specs.Below.{at, listBelow};
+ghost use mathlib.Core.Bool.{cond};
+ghost use Prim.Native.Nat.{ℕ, _+_, _*_, _-_, _/_, _≤_, _<_};
+ghost use lib.ListN.{length, take, drop, set};
+ghost use lib.Dec.{ltb};
+ghost use Rattle.model.specs.Below.{at, listBelow, bestBelow};
 ghost use Rattle.model.specs.Graph.{placeOf};
 ghost use Rattle.model.specs.Table.{bytes};
+ghost use Rattle.model.specs.ListRule.{finished, makespanOf, chosen, winner, madeBytes, madeMakespan};
+ghost use Rattle.model.specs.Answers.{madeOf, madeOutput};
+ghost use Rattle.placing.specs.Candidates.{planBy, Ready};
+ghost use Rattle.maker.specs.Choosing.{Room, Listed, spanWith, byTask, Ordered, Planned};
 ghost use Rattle.maker.specs.Renumbering.{costsBy, placesBy, maskedAt, maskedBy, linkedBy, tableBy, Rows, numberOf};
+use model::Bus;
+use model::Check;
+use model::Made;
+use model::Time;
 
 fn wide(x: u16) -> u32
     ensures { λ r. ⌜ (r ≡ x) × (r < 65536) ⌝ }
@@ -136,4 +146,344 @@ fn put_table(order: &[u8], cores: &[u32], start: &[u32], end: &[u32], out: &mut 
     fill_numbers(order, cores, start, end, &mut numbers);
     let tasks = order.len();
     table::put_rows(&numbers[..5 * tasks], tasks, out);
+}
+
+// ---- choices
+fn pick(test: bool, x: u32, y: u32) -> u32
+    ensures { λ r. ⌜ r ≡ cond test x y ⌝ }
+{
+    if test { x } else { y }
+}
+
+// The makespan with a choice for the last place added.
+fn span_with(
+    bus: Bus,
+    costs: &[u32],
+    sources: &[u8],
+    targets: &[u8],
+    amounts: &[u16],
+    links: &[u8],
+    choice: u32,
+    choices: &mut [u32],
+    cores: &mut [u32],
+    core: &mut [u32],
+    words: &mut [u32],
+    lengths: &mut [u32],
+    start: &mut [u32],
+    end: &mut [u32],
+) -> u32
+    requires { ⌜ Ready bus (now costs) (now sources) (now targets) (now amounts) (now links) (now choices) × (1 ≤ length (now costs)) × Room (length (now costs)) (now cores) (now core) (now words) (now lengths) (now start) (now end) ⌝ }
+    ensures { λ r. ⌜ (r ≡ spanWith bus (now (costs .entry)) (now (sources .entry)) (now (targets .entry)) (now (amounts .entry)) (now (choices .entry)) (length (now (costs .entry)) - 1) choice) × (now (choices .exit) ≡ set (now (choices .entry)) (length (now (costs .entry)) - 1) choice) ⌝ }
+{
+    let last = costs.len() - 1;
+    choices[last] = choice;
+    rounds::settle(
+        bus,
+        costs,
+        sources,
+        targets,
+        amounts,
+        links,
+        choices,
+        cores,
+        core,
+        words,
+        lengths,
+        start,
+        end,
+    )
+}
+
+// The best choice for the last place added, with the earlier choices kept: the first of those with the least makespan.
+fn choose(
+    bus: Bus,
+    costs: &[u32],
+    sources: &[u8],
+    targets: &[u8],
+    amounts: &[u16],
+    links: &[u8],
+    choices: &mut [u32],
+    cores: &mut [u32],
+    core: &mut [u32],
+    words: &mut [u32],
+    lengths: &mut [u32],
+    start: &mut [u32],
+    end: &mut [u32],
+)
+    requires { ⌜ Ready bus (now costs) (now sources) (now targets) (now amounts) (now links) (now choices) × (1 ≤ length (now costs)) × Room (length (now costs)) (now cores) (now core) (now words) (now lengths) (now start) (now end) ⌝ }
+    ensures { λ _. ⌜ now (choices .exit) ≡ set (now (choices .entry)) (length (now (costs .entry)) - 1) (bestBelow (spanWith bus (now (costs .entry)) (now (sources .entry)) (now (targets .entry)) (now (amounts .entry)) (now (choices .entry)) (length (now (costs .entry)) - 1)) (2 * bus .cores)) ⌝ }
+{
+    // more than any makespan
+    let mut least: u32 = 4294967295;
+    let mut best: u32 = 0;
+    for choice in 0..2 * bus.cores {
+        let span = span_with(
+            bus,
+            costs,
+            sources,
+            targets,
+            amounts,
+            links,
+            choice,
+            choices,
+            cores,
+            core,
+            words,
+            lengths,
+            start,
+            end,
+        );
+        best = pick(span < least, choice, best);
+        least = pick(span < least, span, least);
+    }
+    let last = costs.len() - 1;
+    choices[last] = best;
+}
+
+// The choice of place k, behind those of the places before it.
+fn choose_next(
+    bus: Bus,
+    costs: &[u32],
+    sources: &[u8],
+    targets: &[u8],
+    amounts: &[u16],
+    links: &[u8],
+    k: usize,
+    within: &mut [u16],
+    choices: &mut [u32],
+    cores: &mut [u32],
+    core: &mut [u32],
+    words: &mut [u32],
+    lengths: &mut [u32],
+    start: &mut [u32],
+    end: &mut [u32],
+)
+    requires { ⌜ Listed (planBy bus (now costs) (now sources) (now targets) (now amounts)) (now links) × (k < length (now costs)) × (length (now sources) ≤ length (now within)) × (length (now costs) ≤ length (now choices)) × Room (length (now costs)) (now cores) (now core) (now words) (now lengths) (now start) (now end) × (take k (now choices) ≡ chosen (planBy bus (now costs) (now sources) (now targets) (now amounts)) k) ⌝ }
+    ensures { λ _. ⌜ take (k + 1) (now (choices .exit)) ≡ chosen (planBy bus (now (costs .entry)) (now (sources .entry)) (now (targets .entry)) (now (amounts .entry))) (k + 1) ⌝ }
+{
+    let added = k + 1;
+    mask(sources, targets, amounts, added, within);
+    let edges = sources.len();
+    choose(
+        bus,
+        &costs[..added],
+        sources,
+        targets,
+        &within[..edges],
+        links,
+        &mut choices[..added],
+        cores,
+        core,
+        words,
+        lengths,
+        start,
+        end,
+    );
+}
+
+// The choices of all places, in list order.
+fn choose_all(
+    bus: Bus,
+    costs: &[u32],
+    sources: &[u8],
+    targets: &[u8],
+    amounts: &[u16],
+    links: &[u8],
+    within: &mut [u16],
+    choices: &mut [u32],
+    cores: &mut [u32],
+    core: &mut [u32],
+    words: &mut [u32],
+    lengths: &mut [u32],
+    start: &mut [u32],
+    end: &mut [u32],
+)
+    requires { ⌜ Listed (planBy bus (now costs) (now sources) (now targets) (now amounts)) (now links) × (length (now sources) ≤ length (now within)) × (length (now costs) ≤ length (now choices)) × Room (length (now costs)) (now cores) (now core) (now words) (now lengths) (now start) (now end) ⌝ }
+    ensures { λ _. ⌜ take (length (now (costs .entry))) (now (choices .exit)) ≡ chosen (planBy bus (now (costs .entry)) (now (sources .entry)) (now (targets .entry)) (now (amounts .entry))) (length (now (costs .entry))) ⌝ }
+{
+    for k in 0..costs.len() {
+        choose_next(
+            bus,
+            costs,
+            sources,
+            targets,
+            amounts,
+            links,
+            k,
+            within,
+            choices,
+            cores,
+            core,
+            words,
+            lengths,
+            start,
+            end,
+        );
+    }
+}
+
+// The winner settled once more: its makespan, and the bytes of its table, by task, at the front of a lent output.
+fn finish(
+    bus: Bus,
+    costs: &[u32],
+    sources: &[u8],
+    targets: &[u8],
+    amounts: &[u16],
+    links: &[u8],
+    order: &[u8],
+    choices: &[u32],
+    within: &mut [u16],
+    cores: &mut [u32],
+    core: &mut [u32],
+    words: &mut [u32],
+    lengths: &mut [u32],
+    start: &mut [u32],
+    end: &mut [u32],
+    out: &mut [u8],
+) -> u32
+    requires { ⌜ Listed (planBy bus (now costs) (now sources) (now targets) (now amounts)) (now links) × Ordered (length (now costs)) (now order) × (now choices ≡ chosen (planBy bus (now costs) (now sources) (now targets) (now amounts)) (length (now costs))) × (length (now sources) ≤ length (now within)) × Room (length (now costs)) (now cores) (now core) (now words) (now lengths) (now start) (now end) × (20 * length (now costs) ≤ length (now out)) ⌝ }
+    ensures { λ r. ⌜ (r ≡ makespanOf (winner (planBy bus (now (costs .entry)) (now (sources .entry)) (now (targets .entry)) (now (amounts .entry))))) × (now (out .exit) ≡ bytes (byTask (now (order .entry)) (finished (winner (planBy bus (now (costs .entry)) (now (sources .entry)) (now (targets .entry)) (now (amounts .entry)))))) (length (now (costs .entry))) ++ drop (20 * length (now (costs .entry))) (now (out .entry))) ⌝ }
+{
+    mask(sources, targets, amounts, costs.len(), within);
+    let edges = sources.len();
+    let span = rounds::settle(
+        bus,
+        costs,
+        sources,
+        targets,
+        &within[..edges],
+        links,
+        choices,
+        cores,
+        core,
+        words,
+        lengths,
+        start,
+        end,
+    );
+    put_table(order, cores, start, end, out);
+    span
+}
+
+// A plan in list order scheduled: the makespan, and the table's bytes, by task, at the front of a lent output.
+fn schedule(
+    bus: Bus,
+    costs: &[u32],
+    sources: &[u8],
+    targets: &[u8],
+    amounts: &[u16],
+    links: &[u8],
+    order: &[u8],
+    out: &mut [u8],
+) -> u32
+    requires { ⌜ Listed (planBy bus (now costs) (now sources) (now targets) (now amounts)) (now links) × Ordered (length (now costs)) (now order) × (20 * length (now costs) ≤ length (now out)) ⌝ }
+    ensures { λ r. ⌜ (r ≡ makespanOf (winner (planBy bus (now (costs .entry)) (now (sources .entry)) (now (targets .entry)) (now (amounts .entry))))) × (now (out .exit) ≡ bytes (byTask (now (order .entry)) (finished (winner (planBy bus (now (costs .entry)) (now (sources .entry)) (now (targets .entry)) (now (amounts .entry)))))) (length (now (costs .entry))) ++ drop (20 * length (now (costs .entry))) (now (out .entry))) ⌝ }
+{
+    let mut within = [0u16; 256];
+    let mut choices = [0u32; 64];
+    let mut cores = [0u32; 64];
+    let mut core = [0u32; 128];
+    let mut words = [0u32; 128];
+    let mut lengths = [0u32; 128];
+    let mut start = [0u32; 128];
+    let mut end = [0u32; 128];
+    choose_all(
+        bus,
+        costs,
+        sources,
+        targets,
+        amounts,
+        links,
+        &mut within,
+        &mut choices,
+        &mut cores,
+        &mut core,
+        &mut words,
+        &mut lengths,
+        &mut start,
+        &mut end,
+    );
+    let tasks = costs.len();
+    finish(
+        bus,
+        costs,
+        sources,
+        targets,
+        amounts,
+        links,
+        order,
+        &choices[..tasks],
+        &mut within,
+        &mut cores,
+        &mut core,
+        &mut words,
+        &mut lengths,
+        &mut start,
+        &mut end,
+        out,
+    )
+}
+
+// A plan scheduled by its list order: the makespan, and the table's bytes at the front of a lent output.
+fn make_table(
+    bus: Bus,
+    costs: &[u16],
+    order: &[u8],
+    sources: &[u8],
+    targets: &[u8],
+    amounts: &[u16],
+    out: &mut [u8],
+) -> u32
+    requires { ⌜ Planned (planBy bus (now costs) (now sources) (now targets) (now amounts)) (now order) × (20 * length (now costs) ≤ length (now out)) ⌝ }
+    ensures { λ r. ⌜ (r ≡ madeMakespan (planBy bus (now (costs .entry)) (now (sources .entry)) (now (targets .entry)) (now (amounts .entry)))) × (now (out .exit) ≡ madeBytes (planBy bus (now (costs .entry)) (now (sources .entry)) (now (targets .entry)) (now (amounts .entry))) ++ drop (20 * length (now (costs .entry))) (now (out .entry))) ⌝ }
+{
+    let mut times = [0u32; 64];
+    let mut from = [0u8; 256];
+    let mut to = [0u8; 256];
+    let mut links = [0u8; 4096];
+    fill_costs(costs, order, &mut times);
+    fill_places(order, sources, &mut from);
+    fill_places(order, targets, &mut to);
+    let times = &times[..order.len()];
+    let from = &from[..sources.len()];
+    let to = &to[..targets.len()];
+    link(from, to, &mut links);
+    schedule(bus, times, from, to, amounts, &links, order, out)
+}
+
+// The table of a plan by the list rule: its bytes at the front of a lent output, and the makespan.
+// Stack: the arrays of `make` and of the functions it calls are 13,376 bytes together. The plan's columns 3 * 1,216 (as read, as
+// held, as lent); the plan by place 4,864, of which the matrix of sources is 4,096; the columns of a candidate 3,584; the
+// table's numbers 1,280.
+pub fn make(plan: &[u8], out: &mut [u8]) -> Made
+    ensures answer { λ r. ⌜ r ≡ madeOf (now (plan .entry)) (now (out .entry)) ⌝ }
+    ensures output { λ r. ⌜ now (out .exit) ≡ madeOutput (now (plan .entry)) (now (out .entry)) ⌝ }
+{
+    let read = plan::read_plan(plan);
+    let planned = read.check;
+    if let Check::Bad(r) = planned {
+        return Made::Refused(r);
+    }
+    let columns = read.columns;
+    let bus = columns.bus;
+    let tasks = columns.tasks;
+    let edges = columns.edges;
+    if out.len() < 20 * tasks {
+        return Made::Refused(table::short_output());
+    }
+    let costs = columns.costs;
+    let order = columns.order;
+    let sources = columns.sources;
+    let targets = columns.targets;
+    let amounts = columns.amounts;
+    let span = make_table(
+        bus,
+        &costs[..tasks],
+        &order[..tasks],
+        &sources[..edges],
+        &targets[..edges],
+        &amounts[..edges],
+        out,
+    );
+    Made::Scheduled(Time(span))
 }
