@@ -76,6 +76,12 @@ def run(data, table, served, words, room):
     add(6, [data, table, given], 'run' + answered(said) + ' list' + joined(out))
 
 
+# ---- kind 7: a table made into a lent output of a length
+def make(data, room):
+    said, out = d.make(data, bytes([9] * room))
+    add(7, [data, b'', d.octets(room, 2)], 'make' + (refused(said) if said[0] else joined(said[3])) + ' bytes' + joined(out))
+
+
 def header(cores=2, t=3, words=3):
     return d.field(1, bytes([cores, t, words]))
 
@@ -287,10 +293,36 @@ def played():
         run(data, table, rng.randrange(cores), [rng.randint(0, w) if rng.random() < 0.5 else w for w in most], 4 * n)
 
 
+# The makespan of the last candidate's first round is 29, that of its second 24: one that stops at the best so far ends at 27.
+FALLING = d.plan_bytes(3, 3, 3, [1, 1, 8, 9, 5, 8], [(0, 3, 6), (0, 5, 3), (1, 5, 3), (2, 4, 2), (2, 5, 1), (3, 4, 1)])
+
+
+def made():
+    for data in (PLAN_A, PLAN_B, FALLING):
+        make(data, 20 * d.parse_plan(data).n)
+    make(PLAN_A, 63)
+    make(PLAN_A, 59)
+    make(PLAN_A, 0)
+    make(header(), 0)
+    make(header(), 3)
+    make(b'', 60)
+    make(header() + task() + edge(0, 0), 0)
+    make(PLAN_A + b'\x09', 0)
+    make(header(8, 64, 64) + task(), 20)
+    make(d.plan_bytes(8, 64, 1, [65535] * 4, [(0, 1, 4095), (0, 2, 4095), (0, 3, 4095)]), 80)
+    rng = random.Random(17)
+    for _ in range(40):
+        n = rng.randint(1, 9)
+        ends = sorted({(rng.randrange(n), rng.randrange(n)) for _ in range(rng.randint(0, 14))})
+        data = d.plan_bytes(rng.randint(1, 5), rng.choice([2, 4, 6]), 2, [rng.randint(1, 9) for _ in range(n)], [(s, t, rng.randint(0, 12)) for s, t in ends if s < t])
+        make(data, 20 * n)
+
+
 plans()
 tables()
 judged()
 played()
+made()
 with open(os.path.join(ROOT, 'stdin'), 'wb') as f:
     f.write(b''.join(data for data, _ in cases))
 with open(os.path.join(ROOT, 'stdout'), 'w') as f:

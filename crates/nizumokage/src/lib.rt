@@ -1,10 +1,11 @@
 // The C interface (include/nizumokage.h): the five entry points, with their answers by value. A slice is a pointer and a length.
 ghost use mathlib.Core.Path.{_≡_};
 ghost use mathlib.Core.List.{[], _∷_};
-ghost use Rattle.model.specs.Answers.{saysNo, saysYes, verdictSays, writtenSays, decodedSays, playedSays};
-ghost use Rattle.model.specs.Answers.{verdictOf, writtenOf, writtenOutput, decodedOf, decodedOutput, playedOf, playedOutput};
+ghost use Rattle.model.specs.Answers.{saysNo, saysYes, verdictSays, madeSays, writtenSays, decodedSays, playedSays};
+ghost use Rattle.model.specs.Answers.{verdictOf, madeOf, madeOutput, writtenOf, writtenOutput, decodedOf, decodedOutput, playedOf, playedOutput};
 ghost use Rattle.nizumokage.specs.Interface.{sideNumber, answerOf};
 use model::Decoded;
+use model::Made;
 use model::Played;
 use model::Refusal;
 use model::Side;
@@ -62,6 +63,18 @@ pub extern "C" fn nz_verify(plan: &[u8], table: &[u8]) -> Answer
     match verifier::verify(plan, table) {
         Verdict::Accepted(makespan) => done(makespan.0 as u64),
         Verdict::Refused(r) => refused(r),
+    }
+}
+
+// The schedule maker.
+#[no_mangle]
+pub extern "C" fn nz_make(plan: &[u8], out: &mut [u8]) -> Answer
+    ensures answer { λ a. ⌜ a ≡ answerOf (madeSays (madeOf (now (plan .entry)) (now (out .entry)))) ⌝ }
+    ensures output { λ a. ⌜ now (out .exit) ≡ madeOutput (now (plan .entry)) (now (out .entry)) ⌝ }
+{
+    match maker::make(plan, out) {
+        Made::Scheduled(makespan) => done(makespan.0 as u64),
+        Made::Refused(r) => refused(r),
     }
 }
 

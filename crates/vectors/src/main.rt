@@ -53,8 +53,10 @@ fn show(kind: u8, first: &[u8], second: &[u8], third: &[u8]) {
         tables::show_write(first, second, small(third));
     } else if kind == 5 {
         tables::show_verify(first, second);
-    } else {
+    } else if kind == 6 {
         runs::show_run(first, second, third);
+    } else {
+        tables::show_make(first, small(third));
     }
 }
 

@@ -1,8 +1,9 @@
-// Tables: read, written and judged. A lent list is printed whole, so that what stays as it was shows too.
+// Tables: read, written, judged and made. A lent list is printed whole, so that what stays as it was shows too.
 ghost use mathlib.Core.Path.{_≡_};
 ghost use Prim.Native.Nat.{_≤_, _<_};
 ghost use lib.ListN.{length};
 use model::Decoded;
+use model::Made;
 use model::Verdict;
 use model::Written;
 
@@ -78,4 +79,22 @@ pub fn show_verify(plan: &[u8], table: &[u8]) {
         Verdict::Refused(r) => crate::text::refusal(r),
     }
     crate::text::line();
+}
+
+// The table made into lent bytes.
+fn make_into(plan: &[u8], out: &mut [u8]) {
+    let answer = maker::make(plan, out);
+    crate::text::word(b"make");
+    match answer {
+        Made::Scheduled(makespan) => crate::text::number(makespan.0 as u64),
+        Made::Refused(r) => crate::text::refusal(r),
+    }
+    crate::text::word(b" bytes");
+    crate::text::bytes(out);
+    crate::text::line();
+}
+
+pub fn show_make(plan: &[u8], room: usize) {
+    let mut out = [9u8; 2048];
+    make_into(plan, &mut out[..fitting(room)]);
 }
