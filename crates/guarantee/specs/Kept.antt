@@ -1,6 +1,7 @@
--- Demand 3: "For any accepted table, by any author, an idle bus at time zero, any core served last, no phase asking for
--- more words than declared: slot by slot, a phase sits through at most its slots times its counted rivals of foreign
--- grants, and has sent its last word by the end of its window." Here: what is kept. The theorem: proofs/Demand.antt, `guaranteed`.
+-- Demand 3: "For any accepted table, by any author, an idle bus at time zero, any core served last, no phase asking for more
+-- words than declared: slot by slot, a phase sits through at most its slots times its counted rivals of foreign grants, and
+-- has sent its last word by the end of its window." Here: what is kept. The theorems: proofs/Demand.antt, `guaranteed`, for
+-- a plan and a table for which `GoodTable` holds; proofs/Verified.antt, `verified`, for bytes that the verifier accepts.
 -- Assumes nothing.
 use Prim.Native.Nat.{ℕ, _*_, _≤_, _<_, min}
 use mathlib.Core.Path.{_≡_}

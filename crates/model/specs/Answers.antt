@@ -1,6 +1,7 @@
 -- The five entry points on all inputs: answer and lent output. Document 01, "Refusal numbers": "No lent output changes. On
 -- success only the 20n bytes, or the 4n or 5n numbers, at the front change", and the order of checks of each.
--- Laws: proofs/Answers.antt. Assumes nothing.
+-- Laws: proofs/Verdicts.antt and proofs/Numbers.antt (the verifier), proofs/MakeVerify.antt (it accepts what the maker
+-- writes), crates/table/proofs/Trip.antt (reader and writer), crates/run/proofs/Obeying.antt (the run). Assumes nothing.
 use mathlib.Core.Path.{_≡_}
 use Prim.Native.Nat.{ℕ, _*_}
 use mathlib.Core.List.{List, [], _∷_, _++_}
@@ -28,7 +29,8 @@ use Rattle.model.specs.declared.Written.{Written}
 use Rattle.model.specs.declared.Decoded.{Decoded}
 use Rattle.model.specs.declared.Played.{Played}
 
--- ---- what each case of each answer says: number 0 is no refusal
+-- ---- "Where an answer is an enum, a definition sets out this paper's number and values for each of its cases." Number 0 is
+-- no refusal; the values are those that the answer itself holds, not what is written to lent memory.
 pub record Said : Type 0 where
   pub number : ℕ
   pub side : Side
@@ -47,7 +49,7 @@ stepSays (Step.Field tag place body) = saysYes (tag ∷ place ∷ body ∷ [])
 stepSays Step.End = saysYes []
 stepSays (Step.Broken r) = saysNo r
 
--- the makespan
+-- accepted, and made, with the makespan
 abbrev pub verdictSays : Verdict → Said
 verdictSays (Verdict.Accepted m) = saysYes (m .0 ∷ [])
 verdictSays (Verdict.Refused r) = saysNo r
@@ -73,7 +75,7 @@ playedSays (Played.Refused r) = saysNo r
 unfoldable pub room : ℕ → List ℕ → Check
 room n out = refuseIf (ltb (length out) n) (refusal OutputShort OfNeither 0)
 
--- the output as it was, or with a new front
+-- "No lent output changes. On success only .. at the front": the output as it was, or with a new front
 abbrev pub onto : List ℕ → Outcome (List ℕ) → List ℕ
 onto out (gives front) = front ++ drop (length front) out
 onto out (refuses r) = out
@@ -96,8 +98,8 @@ verdictBy (refuses r) = Verdict.Refused r
 unfoldable pub verdictOf : List ℕ → List ℕ → Verdict
 verdictOf p s = verdictBy (judged p s)
 
--- what a table is accepted for, with makespan m (proofs/Verdicts.antt): plan and table read, every rule holds, m is the
--- greatest F
+-- what a table is accepted for, with makespan m (proofs/Verdicts.antt, `accepts-facts` and `accepts-test`: accepted exactly
+-- there): plan and table read, every rule holds, m is the greatest F
 pub record Accepts (p s : List ℕ) (m : ℕ) : Type 0 where
   pub plan : Plan
   pub table : List ℕ
@@ -106,8 +108,8 @@ pub record Accepts (p s : List ℕ) (m : ℕ) : Type 0 where
   pub good : GoodTable plan (ofNumbers table)
   pub greatest : Greatest (ofNumbers table .F) (tasks plan) m
 
--- what a table is refused for by 12 to 15 (proofs/Numbers.antt): plan and table read, and the refusal names the rule that is
--- first broken, and where
+-- what a table is refused for by 12 to 15 (proofs/Numbers.antt, `rule-facts` and `rule-test`: refused exactly there): plan
+-- and table read, and the refusal names the rule that is first broken, and where
 pub record Breaks (p s : List ℕ) (r : Refusal) : Type 0 where
   pub plan : Plan
   pub table : List ℕ
@@ -145,7 +147,8 @@ writtenOf p v out = writtenBy (writing p v out)
 unfoldable pub writtenOutput : List ℕ → List ℕ → List ℕ → List ℕ
 writtenOutput p v out = onto out (writing p v out)
 
--- ---- "The table reader takes plan and table, makes the checks up to the 9 for bytes left over, then 8"
+-- ---- "The table reader takes plan and table, makes the checks up to the 9 for bytes left over, then 8, and gives the
+-- writer's 5n numbers."
 unfoldable pub decoding : List ℕ → List ℕ → List ℕ → Outcome (List ℕ)
 decoding p s out =
     andThen (planOf p) (λ plan. andThen (tableOf plan s) (λ v. passing (room (5 * tasks plan) out) v))
@@ -161,6 +164,7 @@ unfoldable pub decodedOutput : List ℕ → List ℕ → List ℕ → List ℕ
 decodedOutput p s out = onto out (decoding p s out)
 
 -- ---- "The run: plan and table as the verifier does .., 16, 17 (length first), 8."
+-- the declared words of each phase: those of the rules, by the table's cores
 unfoldable pub declared : Judged → List ℕ
 declared j = phaseWords (j .plan) (ofNumbers (j .table) .core)
 
@@ -177,6 +181,8 @@ wordsCheck j words =
     orElse (refuseIf (not (eqb (length words) n)) (refusal WordsWrong OfNeither (length words)))
     (refuseIf (ltb bad n) (refusal WordsWrong OfNeither bad))
 
+-- "plan, accepted table, the core served last before time 0, and 2n actual word counts", and the lent output; gives its 4n
+-- numbers
 unfoldable pub playing : List ℕ → List ℕ → ℕ → List ℕ → List ℕ → Outcome (List ℕ)
 playing p s served words out =
     andThen (judged p s)

@@ -1,7 +1,9 @@
 -- Document 01, "The list rule". A task is met here by its place in the list order, so that "earlier-listed" is "at a lower
 -- place": place a holds task `at (listOrder p) a`. A choice is 2 · core + mode, mode 0 overlapping and 1 exclusive, so that
--- choices in rising order are in the order in which ties are decided.
--- Laws: proofs/ListRule.antt. Assumes nothing.
+-- choices in rising order are in the order in which ties are decided. (Compare 001, section 5.2 and algorithms 1 and 2;
+-- document 01 decides.)
+-- Laws: proofs/ByPlace.antt (the plan in list order), Placing.antt (step 2), Settles.antt (the rounds end), Spans.antt
+-- (marks under 2^31), Chosen.antt (who wins), Accepts.antt (`made-good`: what is made is a good table). Assumes nothing.
 use mathlib.Core.Path.{_≡_}
 use Prim.Native.Nat.{ℕ, zero, suc, _+_, _*_, _-_, _/_, _%_, _≤_, _<_, max}
 use mathlib.Core.List.{List, [], _∷_, _++_}
@@ -92,7 +94,8 @@ clashes c lengths starts a r =
 unfoldable pub leastFree : (ℕ → Bool) → ℕ → ℕ → ℕ
 leastFree clash from top = from + firstBelow (λ d. not (clash (from + d))) (top - from)
 
--- what that is, where nothing clashes from `top` on: the least time without a clash
+-- what that is, where nothing clashes from `top` on (proofs/Placing.antt, `least-free`, `start-least`): the least time
+-- without a clash
 pub record LeastFree (clash : ℕ → Bool) (from r : ℕ) : Type 0 where
   pub later : from ≤ r
   pub clear : clash r ≡ false
@@ -128,7 +131,7 @@ rounds c zero = firstLengths c
 rounds c (suc n) = grown c (rounds c n)
 
 -- Each round that grows a window charges it for a rival more, and each is charged for cores − 1 at most: so many rounds
--- settle it (proofs/Settles.antt: `grown c (settled c) ≡ settled c`).
+-- settle it (proofs/Settles.antt, `settled-still`: one more changes nothing).
 unfoldable pub settled : Candidate → List ℕ
 settled c = rounds c (2 * tasks (c .plan) * (cores (c .plan) - 1))
 
@@ -140,7 +143,7 @@ makespanOf c = makespan (tasks (c .plan)) (finished c)
 
 -- ---- "Tasks are added in that order. For each one, every core is tried in two modes, overlapping and exclusive, with the
 -- earlier tasks' cores and modes kept." "The least makespan (greatest F, or 0 with no tasks) wins; ties go to the lower core,
--- then to overlapping."
+-- then to overlapping." (proofs/Chosen.antt, `chosen-wins`: the same as facts, `Wins`)
 unfoldable pub chosen : Plan → ℕ → List ℕ
 chosen q zero = []
 chosen q (suc k) =
@@ -150,7 +153,7 @@ chosen q (suc k) =
 unfoldable pub winner : Plan → Candidate
 winner q = candidate q (chosen q (tasks q))
 
--- the table, by task
+-- the table, by task. "All marks stay under 2^31, so no plan is refused for length" (proofs/Accepts.antt, `made-fits`)
 unfoldable pub made : Plan → Table
 made p =
     let o = listOrder p in

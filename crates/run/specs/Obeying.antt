@@ -1,5 +1,5 @@
--- Demand 3 for the numbers that the run writes: what they are, and what they keep to. The theorem: proofs/Obeying.antt, `run-obeys`.
--- Assumes nothing.
+-- Demand 3 for the numbers that the run writes: what they are, and what they keep to. The theorem: proofs/Obeying.antt,
+-- `run-obeys`. Assumes nothing.
 use Prim.Native.Nat.{ℕ, _+_, _*_, _≤_, _<_}
 use mathlib.Core.Path.{_≡_}
 use mathlib.Core.List.{List}
@@ -13,7 +13,8 @@ use Rattle.model.specs.BusRule.{Use, run, finish, waits}
 use Rattle.model.specs.Answers.{Judged, judged}
 use Rattle.guarantee.specs.Kept.{Guaranteed}
 
--- `list` after a run of plan bytes p and table bytes s: of each phase x the end and the waits of the bus rule's run
+-- `list` after a run of plan bytes p and table bytes s, with u's core served last and actual words: of each phase x the end
+-- and the waits of the bus rule's run
 pub record Obeys (p s : List ℕ) (u : Use) (list : List ℕ) : Type 0 where
   pub j : Judged
   pub accepted : judged p s ≡ gives j
