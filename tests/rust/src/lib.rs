@@ -1,9 +1,16 @@
 //! Document 01 twice: the proved library behind its C interface (`product`) and an independent
 //! plain Rust implementation (`plain`), with what holds one against the other.
 
+pub mod case;
+pub mod draft;
+pub mod generate;
+pub mod judge;
 pub mod plain;
 #[cfg(feature = "product")]
 pub mod product;
+pub mod random;
+pub mod shrink;
+pub mod tally;
 
 /// What every entry point answers, laid out as the C interface's `struct nz_answer`.
 #[repr(C)]

@@ -18,7 +18,7 @@ pub struct Row {
 }
 
 impl Row {
-    fn of_numbers(numbers: &[u32; 5]) -> Row {
+    pub fn of_numbers(numbers: &[u32; 5]) -> Row {
         let &[core, read, execute, write, end] = numbers;
         Row { core, read, execute, write, end }
     }
