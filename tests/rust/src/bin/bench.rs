@@ -4,8 +4,8 @@
 //!     cargo run --release --bin bench -- once verify|make|run library|plain TASKS CORES T D
 //!
 //! The first form prints Markdown tables: verify, make and run for 8 to 64 tasks, 2 to 8 cores and
-//! three bus settings. Library and plain take turns in one process; medians count. `once` makes one
-//! call for each plan of a setting, for a profiler such as callgrind.
+//! three bus settings. Library and plain take turns in one process; medians of processor time count.
+//! `once` makes one call for each plan of a setting, for a profiler such as callgrind.
 
 use std::env;
 use std::hint::black_box;
@@ -26,7 +26,7 @@ const SEED: u64 = 1;
 const PLANS: usize = 3;
 
 /// A turn repeats the calls until it lasts about so long.
-const TURN: Duration = Duration::from_millis(2);
+const TURN: Duration = Duration::from_micros(200);
 /// All turns of one setting last about so long, but there are at least `LEAST_TURNS`.
 const ALL_TURNS: Duration = Duration::from_millis(400);
 const LEAST_TURNS: usize = 9;
@@ -188,13 +188,30 @@ fn repeats_for_a_turn(function: Function, inputs: &[Input]) -> usize {
 /// The mean time of one call in this turn.
 fn turn(library: &impl Library, function: Function, inputs: &[Input], repeats: usize) -> f64 {
     let mut room = Room::new();
-    let started = Instant::now();
+    let started = processor_time();
     for _ in 0..repeats {
         for input in inputs {
             black_box(function.call(library, black_box(input), black_box(&mut room)));
         }
     }
-    started.elapsed().as_secs_f64() / (repeats * inputs.len()) as f64
+    (processor_time() - started).as_secs_f64() / (repeats * inputs.len()) as f64
+}
+
+/// The time that this thread has had; other programs on the machine don't count.
+fn processor_time() -> Duration {
+    #[repr(C)]
+    struct Timespec {
+        seconds: i64,
+        nanoseconds: i64,
+    }
+    unsafe extern "C" {
+        fn clock_gettime(clock: i32, time: *mut Timespec) -> i32;
+    }
+    const LINUX_CLOCK_THREAD_CPUTIME_ID: i32 = 3;
+    let mut time = Timespec { seconds: 0, nanoseconds: 0 };
+    let status = unsafe { clock_gettime(LINUX_CLOCK_THREAD_CPUTIME_ID, &mut time) };
+    assert_eq!(status, 0, "the clock can be read");
+    Duration::new(time.seconds as u64, time.nanoseconds as u32)
 }
 
 fn median(values: &mut [f64]) -> f64 {

@@ -75,7 +75,7 @@ fn too_many(random: &mut Random, draft: &mut Draft) {
         let time = random.pick(&[0, 1, 1, 7]);
         draft.times.resize(draft.times.len().max(random.pick(&[0, MAX_TASKS])) + count, time);
     } else {
-        draft.times.resize(draft.times.len().max(24).min(MAX_TASKS), 1);
+        draft.times.resize(draft.times.len().clamp(24, MAX_TASKS), 1);
         draft.edges =
             (0..24).flat_map(|s| (s + 1..24).map(move |t| (s, t))).map(no_words).collect();
         draft.edges.truncate(MAX_EDGES + count - 1);
@@ -190,9 +190,8 @@ pub fn rows(random: &mut Random, rows: &mut [[u32; 5]], cores: u32) {
 }
 
 fn exchange_marks(rows: &mut [[u32; 5]], task: usize, other: usize) {
-    for mark in 1..5 {
-        (rows[task][mark], rows[other][mark]) = (rows[other][mark], rows[task][mark]);
-    }
+    rows.swap(task, other);
+    exchange_cores(rows, task, other);
 }
 
 fn exchange_cores(rows: &mut [[u32; 5]], task: usize, other: usize) {
