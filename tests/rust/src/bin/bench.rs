@@ -23,10 +23,10 @@ const CORES: [u8; 3] = [2, 4, 8];
 /// T and D.
 const SLOTS: [(u8, u8); 3] = [(3, 3), (4, 2), (64, 1)];
 const SEED: u64 = 1;
-const PLANS: usize = 3;
+const PLANS: usize = 5;
 
 /// A turn repeats the calls until it lasts about so long.
-const TURN: Duration = Duration::from_micros(200);
+const TURN: Duration = Duration::from_millis(2);
 /// All turns of one setting last about so long, but there are at least `LEAST_TURNS`.
 const ALL_TURNS: Duration = Duration::from_millis(400);
 const LEAST_TURNS: usize = 9;
