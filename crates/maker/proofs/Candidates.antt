@@ -3,7 +3,7 @@
 use mathlib.Core.Path.{_≡_, refl, sym, ap, subst, _∙_}
 use mathlib.Core.Bool.{Bool, true, false, cond, _&&_}
 use mathlib.Core.List.{List, [], _∷_, _++_}
-use Prim.Native.Nat.{ℕ, suc, _+_, _*_, _-_, _≤_, _<_, zero-le}
+use Prim.Native.Nat.{ℕ, _+_, _*_, _-_, _≤_, _<_, zero-le}
 use native.Mathlib.Numerals.{add-one}
 use native.Mathlib.Omega.{arith}
 use lib.ListN.{length, take, set, length-take}
@@ -11,9 +11,9 @@ use lib.Seq.{take-suc, take-at, take-length, set-at, length-take-le, getD-take}
 use lib.Dec.{ltb}
 use borrow.Author.Tests.{ltb-true}
 use Rattle.model.specs.Below.{at, bestBelow}
-use Rattle.model.specs.Plan.{Plan, tasks, edges, cores, cost, source, target, amount}
+use Rattle.model.specs.Plan.{Plan, tasks, edges, cores, source, target, amount}
 use Rattle.model.specs.ListRule.{added, candidate, isSource, chosen, winner}
-use Rattle.model.proofs.Tests.{either, lt-or-ge, and-both, cond-le, cond-is}
+use Rattle.model.proofs.Tests.{lt-or-ge, and-both, cond-le}
 use Rattle.model.proofs.Below.{list-length, list-at}
 use Rattle.model.proofs.Plan.{snoc-length}
 use Rattle.model.proofs.Spans.{at-past}

@@ -1,12 +1,11 @@
 -- The choice of a place: the first of those with the least makespan, the earlier choices kept. Assumes nothing.
 use mathlib.Core.Path.{_≡_, refl, sym, ap, _∙_}
-use mathlib.Core.Bool.{Bool, true, false, cond}
-use mathlib.Core.List.{List, [], _∷_, _++_}
-use Prim.Native.Nat.{ℕ, zero, suc, _+_, _*_, _-_, _≤_, _<_}
+use mathlib.Core.Bool.{cond}
+use mathlib.Core.List.{List}
+use Prim.Native.Nat.{ℕ, zero, suc, _+_, _≤_, _<_}
 use native.Mathlib.Numerals.{add-one}
 use native.Mathlib.Omega.{arith}
-use lib.ListN.{length, take, drop, set, length-set}
-use lib.Seq.{set-set}
+use lib.ListN.{length, set}
 use lib.Dec.{ltb}
 use Rattle.model.specs.Below.{at, bestBelow}
 use Rattle.model.specs.declared.Bus.{Bus}

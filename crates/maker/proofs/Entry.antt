@@ -1,13 +1,12 @@
 -- The ways out of `make`: the answer, and the lent output after it. Assumes nothing.
-use mathlib.Core.Path.{_≡_, refl, sym, ap, _∙_}
+use mathlib.Core.Path.{_≡_, sym, ap, _∙_}
 use mathlib.Core.List.{List, _++_}
 use Prim.Native.Nat.{ℕ, _*_, _≤_, _<_}
-use native.Mathlib.Omega.{arith}
 use lib.ListN.{length, take, drop}
 use borrow.Author.Tests.{lt-ltb, le-ltb}
 use Rattle.model.specs.Refusals.{refusal, gives, refuses}
 use Rattle.model.specs.Plan.{Plan, tasks}
-use Rattle.model.specs.Graph.{planOf, listOrder}
+use Rattle.model.specs.Graph.{planOf}
 use Rattle.model.specs.ListRule.{made, madeBytes, madeMakespan}
 use Rattle.model.specs.Answers.{room, making, madeOf, madeOutput}
 use Rattle.model.specs.declared.Fault.the-variants.{OutputShort}
@@ -56,3 +55,8 @@ pub fronts-planned : (bytes : List ℕ) (c : Columns) (p : Plan) → Known bytes
 fronts-planned bytes c p k =
     rw (fronts-plan bytes c p k)
     (record { valid = k .read .valid; full = k .full; listed = k .order })
+
+-- ---- what `make` promises settles its answer and the output
+pub make-one : (plan out : List ℕ) (r r' : Made) (o o' : List ℕ) → (r ≡ madeOf plan out) × (o ≡ madeOutput plan out)
+    → (r' ≡ madeOf plan out) × (o' ≡ madeOutput plan out) → (r ≡ r') × (o ≡ o')
+make-one plan out r r' o o' h h' = (h .0 ∙ sym (h' .0), h .1 ∙ sym (h' .1))

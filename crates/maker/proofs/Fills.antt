@@ -1,9 +1,9 @@
 -- Columns filled from the front: their length, and the loop's end. Assumes nothing.
-use mathlib.Core.Path.{_≡_, sym, ap, _∙_}
+use mathlib.Core.Path.{_≡_, sym}
 use mathlib.Core.List.{List, _++_}
 use Prim.Native.Nat.{ℕ, _≤_}
 use native.Mathlib.Omega.{arith}
-use lib.ListN.{length, take, drop, length-append}
+use lib.ListN.{length, take, drop}
 use lib.Seq.{take-at}
 use Rattle.model.specs.Below.{listBelow}
 use Rattle.model.proofs.Below.{list-length}

@@ -1,12 +1,12 @@
 -- The winner settled, and its table written by task, from the columns that it was settled in. Assumes nothing.
-use mathlib.Core.Path.{_≡_, refl, sym, ap, _∙_}
+use mathlib.Core.Path.{_≡_, ap, _∙_}
 use mathlib.Core.List.{List, _++_}
 use Prim.Native.Nat.{ℕ, _+_, _*_, _≤_, _<_}
 use native.Mathlib.Omega.{arith}
 use lib.ListN.{length, drop, length-append}
 use Rattle.model.specs.Below.{at, listBelow}
 use Rattle.model.specs.Plan.{Plan, tasks}
-use Rattle.model.specs.Table.{Table, bytes}
+use Rattle.model.specs.Table.{bytes}
 use Rattle.model.specs.ListRule.{Candidate, coreIn, placed, finished, chosen, winner}
 use Rattle.model.proofs.Below.{list-length}
 use Rattle.model.proofs.Chosen.{chosen-core}

@@ -5,7 +5,6 @@ ghost use mathlib.Core.List.{_++_};
 ghost use mathlib.Core.Bool.{cond};
 ghost use Prim.Native.Nat.{ℕ, _+_, _*_, _-_, _/_, _≤_, _<_};
 ghost use lib.ListN.{length, take, drop, set};
-ghost use lib.Dec.{ltb};
 ghost use Rattle.model.specs.Below.{at, listBelow, bestBelow};
 ghost use Rattle.model.specs.Graph.{placeOf};
 ghost use Rattle.model.specs.Table.{bytes};

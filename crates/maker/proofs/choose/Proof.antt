@@ -4,7 +4,7 @@ use Rattle.maker.proofs.Choosing.{Kept, room-kept, ready-long, span-sam
 use lib.ListN.{length, set, length-set}
 use lib.Seq.{set-set}
 use Prim.Native.Nat.{ℕ, _*_, _-_, _≤_}
-use mathlib.Core.Path.{_≡_, refl, sym, ap, _∙_}
+use mathlib.Core.Path.{_≡_, refl, ap, _∙_}
 use mathlib.Core.List.{List}
 use native.Mathlib.Omega.{arith}
 use borrow.Author.Needs.{needs}

@@ -4,7 +4,7 @@ use Rattle.placing.specs.Candidates.{planBy}
 use Rattle.maker.proofs.Fills.{fill-take, fill-count}
 use Rattle.maker.proofs.Choosing.{room-less}
 use Rattle.maker.proofs.Candidates.{ready-lent, chosen-lent}
-use lib.ListN.{length, take}
+use lib.ListN.{length}
 use lib.Seq.{length-take-le}
 use Prim.Native.Nat.{_+_}
 use native.Mathlib.Omega.{arith}

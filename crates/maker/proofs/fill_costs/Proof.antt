@@ -6,7 +6,7 @@ use borrow.Author.Count.{below-more}
 use lib.ListN.{length, drop}
 use Prim.Native.Nat.{ℕ, _≤_, _<_, _-_}
 use mathlib.Core.List.{_++_}
-use mathlib.Core.Path.{_≡_, sym, ap, _∙_}
+use mathlib.Core.Path.{_≡_, ap, _∙_}
 use native.Mathlib.Omega.{arith}
 use borrow.Author.Needs.{needs}
 use Rattle.maker.proofs.fill_costs.Statement.{statement}

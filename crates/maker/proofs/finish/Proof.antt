@@ -1,10 +1,10 @@
 -- `maker::finish` meets its contract. The winner settled, then written.
-use Rattle.model.specs.ListRule.{Candidate, makespanOf}
+use Rattle.model.specs.ListRule.{makespanOf}
 use Rattle.placing.specs.Candidates.{planBy}
 use Rattle.maker.proofs.Fills.{fill-take, fill-count}
 use Rattle.maker.proofs.Candidates.{ready-all, winner-is}
 use Rattle.maker.proofs.Finishing.{rows-ready, cores-small, finished-bytes}
-use mathlib.Core.Path.{_≡_, ap, _∙_}
+use mathlib.Core.Path.{ap, _∙_}
 use native.Mathlib.Omega.{arith}
 use borrow.Author.Needs.{needs}
 use borrow.Author.Needs.{needs}

@@ -2,7 +2,6 @@
 use Rattle.placing.specs.Candidates.{planBy}
 use Rattle.maker.proofs.Fills.{fill-take, fill-count}
 use Rattle.maker.proofs.Listing.{order-long, order-known, by-place, edges-known, tasks-same, ordered, listed-by, made-by}
-use mathlib.Core.Path.{_≡_}
 use native.Mathlib.Omega.{arith}
 use borrow.Author.Needs.{needs}
 use borrow.Author.Needs.{needs}

@@ -3,7 +3,7 @@ use Rattle.model.specs.Below.{at}
 use Rattle.maker.specs.Renumbering.{tableBy}
 use Rattle.maker.proofs.Rows.{number-core, number-read, number-execute, number-write, number-end}
 use Prim.Native.Nat.{ℕ, _+_, _*_}
-use mathlib.Core.Path.{_≡_, ap, _∙_}
+use mathlib.Core.Path.{ap, _∙_}
 use borrow.Author.Needs.{needs}
 use borrow.Author.Needs.{needs}
 use Rattle.maker.proofs.number_at.Statement.{statement}

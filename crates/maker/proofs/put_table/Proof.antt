@@ -1,12 +1,10 @@
 -- `maker::put_table` meets its contract. The numbers in working memory, then their bytes.
-use Rattle.model.specs.Below.{at}
-use Rattle.model.specs.Table.{ofNumbers}
 use Rattle.maker.specs.Renumbering.{tableBy}
 use Rattle.maker.proofs.Rows.{numbers-long, numbers-are, bytes-same}
 use lib.ListN.{length, drop}
-use mathlib.Core.Path.{_≡_, ap, _∙_}
+use mathlib.Core.Path.{ap, _∙_}
 use mathlib.Core.List.{List, _++_}
-use Prim.Native.Nat.{_*_}
+use Prim.Native.Nat.{_*_, _<_}
 use native.Mathlib.Omega.{arith}
 use borrow.Author.Needs.{needs}
 use borrow.Author.Needs.{needs}
@@ -36,7 +34,14 @@ put-rows-requires c κs =
     let a = s .args in
     let t = tableBy (a .order .now) (a .cores .now) (a .start .now) (a .end .now) in
     let n = length (a .order .now) in
-    (s .pre .0 .few, omega (arith, numbers-long t n _ _ (c .before .before .before .fill-numbers .ensures)), s .pre .1, λ i h. omega (arith, numbers-are t n _ _ (c .before .before .before .fill-numbers .ensures) .core i h, s .pre .2 _ (s .pre .0 .placed i h)))
+    let e = c .before .before .before .fill-numbers .ensures in (
+      omega (arith, s .pre .0 .few),
+      omega (arith, numbers-long t n _ _ e),
+      omega (arith, s .pre .1),
+      λ i h.
+          let l : i < n = omega arith in
+          omega (arith, numbers-are t n _ _ e .core i l, s .pre .2 _ (s .pre .0 .placed i l)),
+    )
 
 same-length : tie.Need-same-length
 same-length c = search needs
