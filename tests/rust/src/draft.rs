@@ -80,3 +80,16 @@ pub fn table_bytes(rows: &[[u32; 5]]) -> Vec<u8> {
     }
     bytes
 }
+
+/// The five numbers of each field; none if it isn't all whole tags 4.
+pub fn table_rows(table: &[u8]) -> Option<Vec<[u32; 5]>> {
+    let (fields, []) = table.as_chunks::<20>() else {
+        return None;
+    };
+    let row = |field: &[u8; 20]| {
+        let (marks, _) = field[4..].as_chunks::<4>();
+        let marks = [0, 1, 2, 3].map(|mark| u32::from_be_bytes(marks[mark]));
+        [u32::from(field[3]), marks[0], marks[1], marks[2], marks[3]]
+    };
+    fields.iter().all(|field| field[..3] == [4, 0, 17]).then(|| fields.iter().map(row).collect())
+}

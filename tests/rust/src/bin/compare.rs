@@ -112,10 +112,14 @@ fn report_difference(case: &Case) {
 
 fn print_outcome(who: &str, outcome: &Outcome, case: &Case) {
     println!("{who}: {:?}", outcome.answer);
-    match (&outcome.memory, outcome.memory == case.fresh_memory()) {
-        (_, true) => println!("  memory unchanged"),
-        (Memory::Bytes(memory), _) => println!("  memory {}", hex(memory)),
-        (Memory::Numbers(memory), _) => println!("  memory {memory:?}"),
+    let before = case.fresh_memory();
+    if !outcome.memory.keeps_but(&before, case.room) {
+        println!("  memory outside the output changed");
+    }
+    match &outcome.memory {
+        _ if outcome.memory == before => println!("  output unchanged"),
+        Memory::Bytes(_) => println!("  output {}", hex(outcome.front_bytes(case.room))),
+        Memory::Numbers(_) => println!("  output {:?}", outcome.front_numbers(case.room)),
     }
 }
 
