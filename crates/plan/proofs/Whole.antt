@@ -8,6 +8,7 @@ use lib.ListN.{length, drop, take, replicate, length-replicate, List·getD-appen
 use lib.Seq.{take-append-seam}
 use Rattle.model.specs.Below.{at}
 use Rattle.model.specs.Refusals.{refusal, refuseIf, orElse, gives, refuses}
+use Rattle.model.specs.Field.{planStep}
 use Rattle.model.specs.Plan.{Plan, Reading, tasks, edges, source, readingOf}
 use Rattle.model.specs.Plan.{tasks as tasksOf}
 use Rattle.model.specs.Plan.{edges as edgesOf}
@@ -16,6 +17,7 @@ use Rattle.model.specs.declared.Fault.the-variants.{Cyclic}
 use Rattle.model.specs.declared.Side.the-variants.{OfPlan}
 use Rattle.model.specs.declared.Refusal.{Refusal}
 use Rattle.model.specs.declared.Check.{Check}
+use Rattle.model.specs.declared.Step.{Step}
 use Rattle.model.specs.declared.Check.the-variants.{Good, Bad}
 use Rattle.model.proofs.Refusals.{or-good, not-refused}
 use Rattle.model.proofs.Graph.{order-length}
@@ -271,3 +273,10 @@ pub fronts-plan : (bytes : List ℕ) (c : Columns) (p : Plan) → Known bytes c 
     }) ≡ p
 fronts-plan bytes c p k =
     λ i. record { bus = k .bus i; costs = k .costs i; sources = k .sources i; targets = k .targets i; amounts = k .amounts i }
+
+-- ---- two results that the promises of `step_from` and `read_plan` allow are one
+pub step-one : (bytes : List ℕ) (place : ℕ) (x y : Step) → x ≡ planStep bytes place → y ≡ planStep bytes place → x ≡ y
+step-one bytes place x y a b = a ∙ sym b
+
+pub plan-one : (bytes : List ℕ) (x y : PlanRead) → x ≡ planRead bytes → y ≡ planRead bytes → x ≡ y
+plan-one bytes x y a b = a ∙ sym b
