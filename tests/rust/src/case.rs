@@ -109,8 +109,11 @@ impl Case {
         Outcome { answer, memory }
     }
 
+    /// Plan and table stand at odd addresses: bytes may stand anywhere.
     fn call(&self, library: &impl Library, memory: &mut Memory) -> Answer {
-        let (plan, table) = (&self.plan[..], &self.table[..]);
+        let plan = [&[0; 3][..], &self.plan].concat();
+        let table = [&[0; 5][..], &self.table].concat();
+        let (plan, table) = (&plan[3..], &table[5..]);
         let lent = GUARD..GUARD + self.room;
         match (self.entry, memory) {
             (Entry::Make, Memory::Bytes(out)) => library.make(plan, &mut out[lent]),

@@ -19,7 +19,7 @@ use nizumokage_tests::random::Random;
 use nizumokage_tests::shrink::shrink;
 use nizumokage_tests::tally::Tally;
 
-const QUICK_ROUNDS: u64 = 12_000;
+const QUICK_ROUNDS: u64 = 60_000;
 const LONG_ROUNDS: u64 = 20 * QUICK_ROUNDS;
 const SHRINK_TIME: Duration = Duration::from_secs(60);
 

@@ -5,8 +5,14 @@ use crate::draft::{Draft, DraftEdge, table_bytes};
 
 /// Passes the systematic cases to `visit` until it gives an error.
 pub fn visit_all<E>(mut visit: impl FnMut(Case) -> Result<(), E>) -> Result<(), E> {
-    let groups =
-        [every_plan_damage, every_table_damage, every_size, at_the_limits, every_bus_setting];
+    let groups = [
+        every_plan_damage,
+        every_table_damage,
+        every_size,
+        at_the_limits,
+        every_bus_setting,
+        far_too_long,
+    ];
     groups.into_iter().try_for_each(|group| group().into_iter().try_for_each(&mut visit))
 }
 
@@ -159,4 +165,25 @@ fn every_bus_setting() -> Vec<Case> {
     let slots = (0..=255).flat_map(|time| (0..=255).map(move |words| (time, words)));
     let slots = slots.map(|(time, words)| case(1, time, words));
     slots.chain((0..=255).map(|cores| case(cores, 1, 1))).collect()
+}
+
+/// More than 2^16 elements of each input and of the output.
+fn far_too_long() -> Vec<Case> {
+    const MANY: usize = 70_000;
+    let mut cases = Vec::new();
+    for entry in Entry::ALL {
+        let case = case_b(entry);
+        let long_plan = |more: &[u8]| Case { plan: [&case.plan, more].concat(), ..case.clone() };
+        cases.push(long_plan(&[0; MANY]));
+        cases.push(long_plan(&[3, 0, 4, 1, 2, 0, 0].repeat(MANY / 7)));
+        cases.push(Case {
+            plan: [vec![1, 0, 3, 1, 1, 1], [2, 0, 2, 0, 1].repeat(MANY / 5)].concat(),
+            ..case.clone()
+        });
+        cases.push(Case { table: [&case.table[..], &[4; MANY]].concat(), ..case.clone() });
+        cases.push(Case { table: case.table.repeat(MANY / 60), ..case.clone() });
+        cases.push(Case { numbers: vec![0; MANY], ..case.clone() });
+        cases.push(Case { room: MANY, ..case });
+    }
+    cases
 }

@@ -19,7 +19,7 @@ pub fn round(random: &mut Random) -> Vec<Case> {
     let bytes = draft.bytes();
     let plan = plain::parse(&bytes).expect("the generator's plans are good");
     let mut cases = Vec::new();
-    if plan.tasks() <= 24 || random.one_in(6) {
+    if plan.tasks() <= 24 || random.one_in(3) {
         cases.push(make_case(random, &plan, bytes.clone()));
     }
     for _ in 0..6 {
