@@ -1,4 +1,3 @@
-pub mod Fills
 pub mod Edges
 pub mod Rows
 pub mod Choosing

@@ -14,7 +14,7 @@ use Rattle.model.specs.Graph.{placeOf}
 use Rattle.model.proofs.RoundTrip.{SameTable}
 use Rattle.maker.specs.Renumbering.{tableBy, numberOf}
 use Rattle.maker.specs.Choosing.{byTask, Ordered}
-use Rattle.maker.proofs.Fills.{fill-take, fill-count}
+use Rattle.contention.proofs.Columns.{fill-take, fill-count}
 
 -- ---- number x, by the mark that it is
 module _ (t : Table) (x : ℕ) where

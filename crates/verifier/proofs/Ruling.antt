@@ -18,11 +18,10 @@ use Rattle.model.specs.declared.Check.the-variants.{Good, Bad}
 use Rattle.model.proofs.Below.{join-cong}
 use Rattle.model.proofs.Contention.{Agree, rivals-same, phase-most, phase-words-at}
 use Rattle.contention.specs.Columns.{phasesBy, coreColumn, startColumn, endColumn, Sized, edgesBy, Edges}
-use Rattle.contention.proofs.Columns.{is-column}
+use Rattle.contention.proofs.Columns.{is-column, fill-length}
 use Rattle.verifier.specs.Columns.{tasksBy, edgesOf, shapeBy, planBy, Between}
 use Rattle.verifier.specs.Judging.{spansCheck, ruled}
 use Rattle.verifier.specs.declared.Judgement.{Judgement}
-use Rattle.verifier.proofs.Fills.{fill-length}
 
 -- phases that agree are judged alike
 window-same : (b : Bus) (h g : Phases) → Agree h g → (x : ℕ) → x < h .count → windowAt b h x ≡ windowAt b g x

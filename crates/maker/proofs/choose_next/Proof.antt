@@ -1,7 +1,7 @@
 -- `maker::choose_next` meets its contract. The words of the edges between the added places, then the best choice.
 use Rattle.model.proofs.Below.{take-count}
 use Rattle.placing.specs.Candidates.{planBy}
-use Rattle.maker.proofs.Fills.{fill-take, fill-count}
+use Rattle.contention.proofs.Columns.{fill-take, fill-count}
 use Rattle.maker.proofs.Choosing.{room-less}
 use Rattle.maker.proofs.Candidates.{ready-lent, chosen-lent}
 use lib.ListN.{length}

@@ -1,5 +1,5 @@
 -- `maker::fill_costs` meets its contract. The places passed have their task's execute time.
-use Rattle.maker.proofs.Fills.{fill-length, fill-end}
+use Rattle.contention.proofs.Columns.{fill-length, fill-end}
 use Rattle.model.proofs.Below.{fill-none, fill-step}
 use Rattle.model.specs.Below.{at, listBelow}
 use borrow.Author.Count.{below-more}

@@ -1,5 +1,5 @@
 -- `maker::fill_places` meets its contract. The edges passed have their place.
-use Rattle.maker.proofs.Fills.{fill-length, fill-end}
+use Rattle.contention.proofs.Columns.{fill-length, fill-end}
 use Rattle.model.proofs.Below.{fill-none, fill-step}
 use Rattle.model.proofs.Graph.{place-le}
 use Rattle.model.specs.Below.{at, listBelow}

@@ -1,7 +1,7 @@
 -- `maker::finish` meets its contract. The winner settled, then written.
 use Rattle.model.specs.ListRule.{makespanOf}
 use Rattle.placing.specs.Candidates.{planBy}
-use Rattle.maker.proofs.Fills.{fill-take, fill-count}
+use Rattle.contention.proofs.Columns.{fill-take, fill-count}
 use Rattle.maker.proofs.Candidates.{ready-all, winner-is}
 use Rattle.maker.proofs.Finishing.{rows-ready, cores-small, finished-bytes}
 use mathlib.Core.Path.{ap, _∙_}

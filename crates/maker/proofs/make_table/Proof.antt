@@ -1,6 +1,6 @@
 -- `maker::make_table` meets its contract. The plan by place, then its schedule.
 use Rattle.placing.specs.Candidates.{planBy}
-use Rattle.maker.proofs.Fills.{fill-take, fill-count}
+use Rattle.contention.proofs.Columns.{fill-take, fill-count}
 use Rattle.maker.proofs.Listing.{order-long, order-known, by-place, edges-known, tasks-same, ordered, listed-by, made-by}
 use native.Mathlib.Omega.{arith}
 use borrow.Author.Needs.{needs}

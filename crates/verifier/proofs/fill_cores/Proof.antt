@@ -1,5 +1,5 @@
 -- `verifier::fill_cores` meets its contract. The cores passed are in place.
-use Rattle.verifier.proofs.Fills.{fill-length, fill-end}
+use Rattle.contention.proofs.Columns.{fill-length, fill-end}
 use Rattle.model.proofs.Below.{fill-none, fill-step}
 use Rattle.model.specs.Table.{ofNumbers}
 use Rattle.model.specs.Below.{listBelow}

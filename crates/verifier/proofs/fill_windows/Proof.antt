@@ -1,6 +1,6 @@
 -- `verifier::fill_windows` meets its contract. The cores and windows passed are in place.
 use Rattle.model.specs.Contention.{ofPhase}
-use Rattle.verifier.proofs.Fills.{fill-length, fill-end}
+use Rattle.contention.proofs.Columns.{fill-length, fill-end}
 use Rattle.model.proofs.Below.{fill-none, fill-step}
 use Rattle.model.specs.Table.{ofNumbers}
 use Rattle.model.specs.Below.{listBelow}
