@@ -5,7 +5,8 @@
 //!
 //! The first form prints Markdown tables: verify, make and run for 8 to 64 tasks, 2 to 8 cores and
 //! three bus settings. Library and plain take turns in one process; medians of processor time count.
-//! `once` makes one call for each plan of a setting, for a profiler such as callgrind.
+//! `once` makes one call for each plan of a setting, for a profiler, as in
+//! `valgrind --tool=callgrind --toggle-collect='*profiled*'`.
 
 use std::env;
 use std::hint::black_box;
@@ -291,11 +292,17 @@ fn call_once(function: &str, library: &str, numbers: [&str; 4]) -> Option<()> {
     for input in setting.inputs() {
         let room = &mut Room::new();
         let answer = match library {
-            "library" => function.call(&Product, &input, room),
-            "plain" => function.call(&Plain, &input, room),
+            "library" => profiled(&Product, function, &input, room),
+            "plain" => profiled(&Plain, function, &input, room),
             _ => return None,
         };
         println!("{answer:?}");
     }
     Some(())
+}
+
+/// What `once` is about, as a function that a profiler can find by its name.
+#[inline(never)]
+fn profiled(library: &impl Library, function: Function, input: &Input, room: &mut Room) -> Answer {
+    function.call(library, black_box(input), room)
 }
