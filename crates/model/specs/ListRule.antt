@@ -143,12 +143,24 @@ makespanOf c = makespan (tasks (c .plan)) (finished c)
 
 -- ---- "Tasks are added in that order. For each one, every core is tried in two modes, overlapping and exclusive, with the
 -- earlier tasks' cores and modes kept." "The least makespan (greatest F, or 0 with no tasks) wins; ties go to the lower core,
--- then to overlapping." (proofs/Chosen.antt, `chosen-wins`: the same as facts, `Wins`)
+-- then to overlapping."
 unfoldable pub chosen : Plan → ℕ → List ℕ
 chosen q zero = []
 chosen q (suc k) =
     let kept = chosen q k in
     kept ++ (bestBelow (λ choice. makespanOf (candidate q (kept ++ (choice ∷ [])))) (2 * cores q) ∷ [])
+
+-- the same as facts, of the makespans by core and mode (proofs/Chosen.antt, `chosen-wins`): of all cores and modes, this core
+-- and mode win
+pub record Wins (span : ℕ → ℕ → ℕ) (cores core mode : ℕ) : Type 0 where
+  pub core-known : core < cores
+  pub mode-known : mode < 2
+  -- "The least makespan"
+  pub least : (k m : ℕ) → k < cores → m < 2 → span core mode ≤ span k m
+  -- "ties go to the lower core": on a lower one it is more
+  pub lower-core : (k m : ℕ) → k < core → m < 2 → span core mode < span k m
+  -- "then to overlapping": where exclusive wins, overlapping on its core is more
+  pub overlapping : mode ≡ 1 → span core mode < span core 0
 
 unfoldable pub winner : Plan → Candidate
 winner q = candidate q (chosen q (tasks q))
