@@ -4,7 +4,8 @@
 //!     cargo run --release --bin bench -- once verify|make|run library|plain TASKS CORES T D
 //!
 //! The first form prints Markdown tables: verify, make and run for 8 to 64 tasks, 2 to 8 cores and
-//! three bus settings. Library and plain take turns in one process; medians of processor time count.
+//! three bus settings. Library and plain take turns in one process; given are medians of processor
+//! time and of the ratio in two turns that follow each other.
 //! `once` makes one call for each plan of a setting, for a profiler, as in
 //! `valgrind --tool=callgrind --toggle-collect='*profiled*'`.
 
@@ -143,18 +144,15 @@ impl Setting {
     }
 }
 
-/// Medians of one call, in seconds.
+/// Medians over the turns.
 #[derive(Clone, Copy, Debug)]
 struct Measured {
     setting: Setting,
+    /// One call, in seconds.
     library: f64,
     plain: f64,
-}
-
-impl Measured {
-    fn ratio(&self) -> f64 {
-        self.library / self.plain
-    }
+    /// Library to plain in turns that follow each other, so under like conditions.
+    ratio: f64,
 }
 
 fn measure(function: Function, setting: Setting) -> Measured {
@@ -167,7 +165,13 @@ fn measure(function: Function, setting: Setting) -> Measured {
         library.push(turn(&Product, function, &inputs, repeats));
         plain.push(turn(&Plain, function, &inputs, repeats));
     }
-    Measured { setting, library: median(&mut library), plain: median(&mut plain) }
+    let mut ratios: Vec<f64> = library.iter().zip(&plain).map(|(l, p)| l / p).collect();
+    Measured {
+        setting,
+        library: median(&mut library),
+        plain: median(&mut plain),
+        ratio: median(&mut ratios),
+    }
 }
 
 /// What is timed gives the same answers and outputs.
@@ -240,7 +244,7 @@ fn print_summary(function: Function, measured: &[Measured]) {
     println!("|--:|--:|--:|--:|--:|--:|");
     for tasks in TASKS {
         let of_size: Vec<_> = measured.iter().filter(|m| m.setting.tasks == tasks).collect();
-        let mut ratios: Vec<f64> = of_size.iter().map(|m| m.ratio()).collect();
+        let mut ratios: Vec<f64> = of_size.iter().map(|m| m.ratio).collect();
         let middle = median(&mut ratios);
         let growth = |time: fn(&Measured) -> f64| {
             let mut all: Vec<f64> =
@@ -270,7 +274,7 @@ fn print_settings(function: Function, measured: &[Measured]) {
             "| {cores}, {time}/{words} | {tasks} | {:.2} | {:.2} | {:.2} | {} | {} |",
             1e6 * m.library,
             1e6 * m.plain,
-            m.ratio(),
+            m.ratio,
             growth(|m| m.library),
             growth(|m| m.plain)
         );
