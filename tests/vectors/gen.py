@@ -318,11 +318,51 @@ def made():
         make(data, 20 * n)
 
 
+# Every refusal on every entry point that can give it, each with its side and place.
+def refusals():
+    rows = reads_b((13, 23), (13, 23))
+    good = d.table_bytes(rows)
+    flat = [x for row in rows for x in row]
+    whole = [0, 8, 4, 0, 4, 0]
+    plan_faults = {
+        1: PLAN_B[:-1], 2: PLAN_B + b'\x09\x00\x00', 3: PLAN_B + b'\x03\x00\x05' + bytes(5), 4: PLAN_B + edge(0, 3), 5: PLAN_B + edge(0, 1),
+        6: header() + task() * 65, 7: header() + task() * 2 + edge(0, 1) + edge(1, 0),
+    }
+    for number, data in plan_faults.items():
+        assert d.verify(data, good)[0] == number
+        plan(data)
+        read(data, good, 15)
+        write(data, flat, 60)
+        verify(data, good)
+        make(data, 60)
+        run(data, good, 0, whole, 12)
+    change = lambda at, value: good[:at] + bytes([value]) + good[at + 1:]
+    table_faults = {1: good[:-1], 2: change(20, 5), 3: change(22, 18), 9: good[:40], 10: change(43, 3), 11: change(27, 24)}
+    for number, data in table_faults.items():
+        assert d.verify(PLAN_B, data)[0] == number
+        read(PLAN_B, data, 15)
+        verify(PLAN_B, data)
+        run(PLAN_B, data, 0, whole, 12)
+    row = lambda i, new: d.table_bytes([new if j == i else old for j, old in enumerate(rows)])
+    rule_faults = {12: row(1, (1, 13, 23, 42, 42)), 13: row(2, (2, 12, 23, 33, 33)), 14: row(2, (1, 13, 23, 33, 33)), 15: row(2, (2, 13, 22, 32, 32))}
+    for number, data in rule_faults.items():
+        assert d.verify(PLAN_B, data)[0] == number
+        read(PLAN_B, data, 15)
+        verify(PLAN_B, data)
+        run(PLAN_B, data, 0, whole, 12)
+    for at in (0, 6, 11, 21):
+        step(plan_faults[1], at)
+    step(plan_faults[1], 28)
+    step(plan_faults[2], len(PLAN_B))
+    step(plan_faults[3], len(PLAN_B))
+
+
 plans()
 tables()
 judged()
 played()
 made()
+refusals()
 with open(os.path.join(ROOT, 'stdin'), 'wb') as f:
     f.write(b''.join(data for data, _ in cases))
 with open(os.path.join(ROOT, 'stdout'), 'w') as f:
