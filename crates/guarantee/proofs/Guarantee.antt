@@ -7,7 +7,7 @@ use native.Mathlib.Omega.{arith}
 use mathlib.Core.List.{List}
 use Rattle.model.specs.Counts.{slots}
 use Rattle.model.specs.Contention.{Phases, rivals}
-use Rattle.model.specs.BusRule.{Use, Grant, ends, sent, choiceTime, run, waits, NextGrant, Log}
+use Rattle.model.specs.BusRule.{Use, Grant, ends, sent, choiceTime, run, waits, Log}
 use Rattle.model.specs.declared.Bus.{Bus}
 use Rattle.model.proofs.Counts.{word-time}
 use Rattle.model.proofs.BusRule.{time-prompt, asks-left, asks-start, play-log, run-log, run-sends, run-ends, run-granted, run-busy}
@@ -17,7 +17,7 @@ use Rattle.guarantee.specs.Kept.{Kept, Guarantee, Guaranteed}
 use Rattle.guarantee.proofs.Waiting.{sat-counted, in-on-le}
 use Rattle.guarantee.proofs.Finer.{stranger, no-slots, fine-cores, cores-rivals, fine-rivals}
 use Rattle.guarantee.proofs.Lasting.{held-is, lasting-le, Accepted, Given}
-use Rattle.guarantee.proofs.Bound.{Inv, inv, on-bound, all-bound, slot-bound, slots-sum, fits, grant-ends, ends-bound}
+use Rattle.guarantee.proofs.Bound.{Inv, inv, on-bound, all-bound, slot-bound, slots-sum, fits, ends-bound}
 
 module _ (b : Bus) (h : Phases) (u : Use) (n : ℕ → ℕ) (ok : Accepted b h n) (gv : Given b h u)
     (room : (x : ℕ) → x < h .count → fine b h x ≤ n x) where
@@ -44,10 +44,6 @@ module _ (b : Bus) (h : Phases) (u : Use) (n : ℕ → ℕ) (ok : Accepted b h n
             held-is b 1,
             word-time b (ok .settings),
           )
-
-  -- what the code of a run needs for its ranges: each grant ends in its phase's window, each count of waits is charged
-  pub in-window : {l : List Grant} {g : Grant} → Log b h u l → NextGrant b h u l g → ends b g ≤ h .end (g .phase)
-  in-window w ch = grant-ends b h u n ok gv room w ch (inv b h u n ok gv room w)
 
   pub sat-charged : {l : List Grant} → Log b h u l → (x : ℕ) → x < h .count → satThrough b h u l x ≤ n x
   sat-charged {l} w x k =

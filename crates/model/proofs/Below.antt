@@ -8,16 +8,16 @@ use mathlib.Core.Path.{_≡_, refl, sym, ap, _∙_}
 use mathlib.Core.Bool.{Bool, true, false, cond, _&&_, _||_}
 use mathlib.Core.Logic.{_⊎_, inl, inr, ⊎-elim}
 use mathlib.Core.List.{List, [], _∷_, _++_, append-assoc}
-use Prim.Native.Nat.{ℕ, zero, suc, _+_, _*_, _≤_, _<_, min, max}
-use native.Mathlib.Nat.{eq-or-lt-of-le, le-antisymm}
+use Prim.Native.Nat.{ℕ, zero, suc, _+_, _*_, _≤_, _<_, max}
+use native.Mathlib.Nat.{eq-or-lt-of-le}
 use native.Mathlib.Numerals.{add-one}
 use native.Mathlib.Omega.{arith}
 use lib.Dec.{ltb}
 use lib.ListN.{length, getD, take, drop, set, length-append, List·getD-append}
 use lib.Seq.{drop-cons, set-at, getD-at, length-take-le}
-use borrow.Author.Tests.{lt-ltb, le-ltb, ltb-true, ltb-false}
-use Rattle.model.specs.Below.{joinBelow, sumBelow, bit, countBelow, maxBelow, allBelow, anyBelow, listBelow, appendBelow, firstBelow, bestBelow, First, Best, leastBelow, at}
-use Rattle.model.proofs.Tests.{either, conflict, lt-or-ge, same-or-not, below-suc, and-both, or-none, or-left, or-right, or-false}
+use borrow.Author.Tests.{lt-ltb, le-ltb}
+use Rattle.model.specs.Below.{joinBelow, sumBelow, bit, countBelow, maxBelow, allBelow, anyBelow, listBelow, firstBelow, bestBelow, First, Best, leastBelow, at}
+use Rattle.model.proofs.Tests.{either, conflict, lt-or-ge, same-or-not, below-suc, and-both, or-false}
 
 module _ {A : Type 0} (op : A → A → A) (u : A) where
   pub join-none : (f : ℕ → A) → joinBelow op u f 0 ≡ u
@@ -287,15 +287,6 @@ best f (suc n) = best-more f n (bestBelow f n) (best f n) (best f n .within) (no
     none zero e = refl
     none (suc n) e = absurd (omega arith)
 
--- for a loop: a later index wins only where it is less
-pub best-new : (f : ℕ → ℕ) (i : ℕ) → f i < f (bestBelow f i) → bestBelow f (i + 1) ≡ i
-unfolding bestBelow
-best-new f i l = rw (add-one, lt-ltb (f i) (f (bestBelow f i)) l)
-
-pub best-kept : (f : ℕ → ℕ) (i : ℕ) → f (bestBelow f i) ≤ f i → bestBelow f (i + 1) ≡ bestBelow f i
-unfolding bestBelow
-best-kept f i l = rw (add-one, le-ltb (f i) (f (bestBelow f i)) l)
-
 -- ---- the least of the values at which a test passes, and of d
 pub least-le : (f : ℕ → ℕ) (p : ℕ → Bool) (n d i : ℕ) → i < n → p i ≡ true → leastBelow f p n d ≤ f i
 unfolding joinBelow
@@ -325,9 +316,6 @@ least-at f p (suc n) m d l w =
     (lt-or-ge d (leastBelow f p n d)
     (λ k. (w .0, w .1, w .2, omega (arith, w .3)))
     (λ k. (ih .0, ih .1, ih .2, omega (arith, ih .3)))))
-
-pub least-same : (f : ℕ → ℕ) (p q : ℕ → Bool) (n d : ℕ) → ((i : ℕ) → i < n → p i ≡ q i) → leastBelow f p n d ≡ leastBelow f q n d
-least-same f p q n d h = join-cong min d _ _ n (λ i l. ap (λ (t : Bool). cond t (f i) d) (h i l))
 
 -- ---- the list of f's values below n: what a loop that fills a slice from the front leaves there, before the rest
 pub list-length : (f : ℕ → ℕ) (n : ℕ) → length (listBelow f n) ≡ n
