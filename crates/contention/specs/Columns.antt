@@ -1,11 +1,11 @@
 -- Phases as code keeps them: columns of cores, starts, ends and words, phase x at index x; and edges as columns of sources,
 -- targets and words. Assumes nothing.
-use Prim.Native.Nat.{ℕ, _+_, _*_, _/_, _≤_, _<_}
+use Prim.Native.Nat.{ℕ, zero, suc, _+_, _*_, _/_, _≤_, _<_}
 use mathlib.Core.Path.{_≡_}
 use mathlib.Core.Bool.{Bool, cond, not, _&&_}
 use mathlib.Core.List.{List}
 use lib.ListN.{length, set, replicate}
-use lib.Dec.{ltb, eqb}
+use lib.Dec.{ltb, leb, eqb}
 use Rattle.model.specs.Below.{at, listBelow}
 use Rattle.model.specs.Plan.{Plan, noPlan, source, target}
 use Rattle.model.specs.Table.{Table}
@@ -45,6 +45,11 @@ pub record Sized (core start end words : List ℕ) (count : ℕ) : Type 0 where
   pub starts : count ≤ length start
   pub ends : count ≤ length end
   pub loads : count ≤ length words
+
+-- ---- the last index at or before x at which a column is at most `from`, 0 if there is none
+unfoldable pub backTo : List ℕ → ℕ → ℕ → ℕ
+backTo tops from zero = zero
+backTo tops from (suc x) = cond (leb (at tops (suc x)) from) (suc x) (backTo tops from x)
 
 -- ---- edges in columns: the plan of n tasks with them, without the rest
 abbrev pub edgesBy : ℕ → List ℕ → List ℕ → List ℕ → Plan

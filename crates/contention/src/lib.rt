@@ -8,7 +8,7 @@ ghost use Rattle.model.specs.Below.{at, bit as bitOf, countBelow, listBelow};
 ghost use Rattle.model.specs.Counts.{mostWords, Settings};
 ghost use Rattle.model.specs.Contention.{moved, phaseWords, rival as rivalIn};
 ghost use Rattle.model.specs.Rules.{delayAt};
-ghost use Rattle.contention.specs.Columns.{overlapOf, rivalOf, phasesBy, rivalBy, Sized, edgesBy, Edges, raised, withEdge};
+ghost use Rattle.contention.specs.Columns.{overlapOf, rivalOf, phasesBy, rivalBy, Sized, backTo, edgesBy, Edges, raised, withEdge};
 use model::Bus;
 use model::Time;
 use model::Words;
@@ -34,6 +34,21 @@ pub fn rival(
     ensures { λ r. ⌜ r ≡ rivalOf mine words start end core others from to ⌝ }
 {
     (mine != core) & overlap(words, start, end, others, from, to)
+}
+
+// The last index at or before x whose entry is at most `from`, 0 if there is none.
+pub fn back_to(tops: &[u32], x: usize, from: u32) -> usize
+    requires { ⌜ x < length (now tops) ⌝ }
+    ensures { λ r. ⌜ r ≡ backTo (now (tops .entry)) from x ⌝ }
+{
+    let mut lo = x;
+    while 0 < lo {
+        if tops[lo] <= from {
+            return lo;
+        }
+        lo -= 1;
+    }
+    0
 }
 
 fn bit(b: bool) -> u32
