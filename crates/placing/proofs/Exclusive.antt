@@ -72,6 +72,15 @@ module _ (core start end words : List ℕ) (count : ℕ) where
         omega (arith, end-missed y (rw (le-ltb 0 own (omega arith)) (and-no (not (eqb mine (at core y))))))) in
         omega arith
 
+    -- nor one of phases that end before it
+    pub met-none : ((y : ℕ) → y < count → at end y ≤ from) → 0 ≡ until
+    met-none ends =
+        let none : until ≤ 0 =
+        max-le (endMet core start end words mine own from to) count 0
+        (λ y l.
+        omega (arith, end-missed y (meet-phase mine own from to y ∙ meets-after h mine own from to y (ends y l)))) in
+        omega arith
+
     until-none : until ≡ 0 → (y : ℕ) → y < count → meet mine own from to y ≡ false
     until-none z y l =
         either (meet mine own from to y)
@@ -139,9 +148,9 @@ module _ (core start end words : List ℕ) (count : ℕ) where
     unfolding nextBy
     next-later d = omega arith
 
-    pub next-within : r ≤ top → next ≤ top
+    pub next-within : (b : ℕ) → top ≤ b → r ≤ b → next ≤ b
     unfolding nextBy
-    next-within l = omega (arith, until-within (t .mine) (t .reads) r e, until-within (t .mine) (t .writes) w f)
+    next-within b m l = omega (arith, until-within (t .mine) (t .reads) r e, until-within (t .mine) (t .writes) w f)
 
     -- all starts before it clash
     read-clash : (d : ℕ) → r + d < reads → clash (r + d) ≡ true
@@ -178,11 +187,11 @@ module _ (core start end words : List ℕ) (count : ℕ) where
 
     -- one more
     pub passed-on :
-        (r x : ℕ) → r ≤ top → Passed r → x ≡ nextBy core start end words count t r → (x ≡ r → ⊥)
-        → (r < x) × (x ≤ top) × Passed x
+        (r x : ℕ) → r ≤ max from top → Passed r → x ≡ nextBy core start end words count t r → (x ≡ r → ⊥)
+        → (r < x) × (x ≤ max from top) × Passed x
     passed-on r x within p q d = (
       omega (arith, next-later t r (λ z. d (q ∙ z))),
-      omega (arith, next-within t r within),
+      omega (arith, next-within t r (max from top) (omega arith) within),
       λ s l k. lt-or-ge s r (λ m. p s l m) (λ m. next-all t r s m (subst (λ (y : ℕ). s < y) q k)),
     )
 

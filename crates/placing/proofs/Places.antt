@@ -3,91 +3,268 @@
 use mathlib.Core.Path.{_≡_, refl, sym, ap, subst, _∙_}
 use mathlib.Core.Bool.{Bool, true, false, cond, not, _&&_, _||_}
 use mathlib.Core.List.{List, _++_}
-use Prim.Native.Nat.{ℕ, suc, _+_, _*_, _-_, _/_, _%_, _≤_, _<_, zero-le}
+use Prim.Native.Nat.{ℕ, zero, suc, _+_, _*_, _-_, _/_, _%_, _≤_, _<_, max, zero-le}
+use native.Mathlib.Nat.{le-refl}
 use native.Mathlib.Omega.{arith}
-use lib.ListN.{length, take, drop, set, length-set}
+use lib.ListN.{length, take, drop, set, replicate, length-set, length-replicate}
 use lib.Seq.{getD-take, getD-set-same, getD-set-other}
 use lib.Dec.{ltb, eqb}
-use borrow.Author.Tests.{eqb-true, eq-eqb, ne-eqb}
-use Rattle.model.specs.Below.{at, maxBelow, anyBelow}
+use borrow.Author.Tests.{eqb-true, eq-eqb, ne-eqb, lt-ltb, le-ltb, ltb-true}
+use Rattle.model.specs.Below.{at, joinBelow, maxBelow, anyBelow}
 use Rattle.model.specs.Plan.{tasks, cost}
 use Rattle.model.specs.Table.{Table}
 use Rattle.model.specs.Contention.{Phases, ofPhase, phasesIn}
 use Rattle.model.specs.Rules.{makespan}
 use Rattle.model.specs.ListRule.{Candidate, coreIn, exclusive, windows, isSource, earliest, LeastFree, startOf, startsOf, placed}
 use Rattle.model.specs.declared.Bus.{Bus}
-use Rattle.model.proofs.Tests.{either, conflict, same-or-not, cond-le}
-use Rattle.model.proofs.Below.{max-ge, max-le, max-same, any-same}
+use Rattle.model.proofs.Tests.{either, conflict, same-or-not, cond-le, and-no, and-true, and-both, or-left, or-right}
+use Rattle.model.proofs.Below.{max-ge, max-le, max-same, max-mono, join-step, any-same, any-here, any-found}
 use Rattle.model.proofs.Contention.{half-even, half-odd, of-even, of-odd}
 use Rattle.model.proofs.Placing.{meets, clashing, end-within, overlapping-start, exclusive-start, starts-length, starts-stay, placed-start, placed-top, placed-within}
 use Rattle.model.proofs.Spans.{Limits, room-within}
-use Rattle.contention.specs.Columns.{overlapOf, rivalOf, rivalBy, Sized, startColumn, endColumn}
+use Rattle.contention.specs.Columns.{overlapOf, rivalOf, rivalBy, Sized, startColumn, endColumn, backTo}
+use Rattle.contention.proofs.Ranges.{back-le, back-over}
 use Rattle.contention.proofs.Columns.{Column, column-is}
-use Rattle.placing.specs.Candidates.{planBy, candidateBy, Ready}
-use Rattle.placing.specs.Starts.{heldBy, earliestBy, taskAt, clashBy, Starts, Room, Prepared}
+use Rattle.placing.specs.Candidates.{planBy, candidateBy, Ready, FewCores}
+use Rattle.placing.specs.Starts.{freeBy, sentBy, earliestBy, Freed, closeBy, Closed, Task, taskAt, clashBy, Starts, Room, Prepared}
+
+close-cong : (words end end' : List ℕ) (y : ℕ) → at end y ≡ at end' y → closeBy words end y ≡ closeBy words end' y
+unfolding closeBy
+close-cong words end end' y e = rw e
+
+-- ---- a phase without words, closed, is met by no window; one with words as before
+close-same :
+    (own w from to s e : ℕ) → overlapOf own from to (cond (ltb 0 w) e 0) s (cond (ltb 0 w) e 0) ≡ overlapOf own from to w s e
+unfolding overlapOf
+close-same own w from to s e =
+    either (ltb 0 w)
+    (λ t.
+    either (ltb from e)
+    (λ u. rw (t, u, lt-ltb 0 e (omega (arith, ltb-true from e u))))
+    (λ u. rw (t, u) (and-no (ltb 0 own && ltb 0 e) ∙ sym (and-no (ltb 0 own && true)))))
+    (λ t. rw (t, le-ltb 0 0 (omega arith), and-no (ltb 0 own)))
+
+meet-closed :
+    (core start end words closes : List ℕ) (y : ℕ) → at closes y ≡ closeBy words end y
+    → (mine own from to : ℕ) → rivalBy core start closes closes mine own from to y ≡ rivalBy core start end words mine own from to y
+unfolding rivalBy rivalOf closeBy
+meet-closed core start end words closes y e mine own from to =
+    rw e (ap (λ (b : Bool). not (eqb mine (at core y)) && b) (close-same own (at words y) from to (at start y) (at end y)))
 
 -- ---- one place, on columns
-module _ (costs links choices core words lengths start end : List ℕ) (a : ℕ) where
-  earliest-top : earliestBy links core end a ≤ maxBelow (at end) (2 * a)
-  unfolding heldBy
-  earliest-top =
-      max-le _ a (maxBelow (at end) (2 * a))
-      (λ b l.
-      cond-le (not (eqb (at links (64 * a + b)) 0) || eqb (at core (2 * b)) (at core (2 * a)))
-      (max-ge (at end) (2 * a) (2 * b + 1) (omega arith)) zero-le)
+module _ (costs sources targets links choices core words lengths start end : List ℕ) (a : ℕ)
+    (room : Room costs sources targets links choices core words lengths start end a) where
+  abbrev ends : ℕ
+  ends = maxBelow (at end) (2 * a)
 
-  module _ (from : ℕ) (q : from ≡ earliestBy links core end a) where
-    pub starts-overlapping : (at choices a % 2 ≡ 1 → ⊥) → Starts costs links choices core words lengths start end a from
+  free-top : freeBy core end (at core (2 * a)) a ≤ ends
+  unfolding freeBy
+  free-top =
+      max-le _ a ends
+      (λ b l. cond-le (eqb (at core (2 * b)) (at core (2 * a))) (max-ge (at end) (2 * a) (2 * b + 1) (omega arith)) zero-le)
+
+  sent-top : sentBy sources targets end a (length sources) ≤ ends
+  unfolding sentBy
+  sent-top =
+      max-le _ (length sources) ends
+      (λ e l.
+      either (eqb (at targets e) a)
+      (λ t.
+      let q = eqb-true (at targets e) a t in
+      rw t (max-ge (at end) (2 * a) (2 * at sources e + 1) (omega (arith, room .chained .before e l (omega (arith, q, room .costs-all)), q))))
+      (λ t. rw t zero-le))
+
+  module _ (from : ℕ) (q : from ≡ earliestBy sources targets core end a) where
+    pub starts-overlapping : (at choices a % 2 ≡ 1 → ⊥) → Starts costs sources targets choices core words lengths start end a from
     starts-overlapping d =
         record { overlapping = λ _. q; alone = λ e. absurd (d (eqb-true (at choices a % 2) 1 e)) }
 
-    pub starts-alone :
-        (r : ℕ) → at choices a % 2 ≡ 1 → LeastFree (clashBy core start end words (2 * a) (taskAt costs core words lengths a)) from r
-        → Starts costs links choices core words lengths start end a r
-    starts-alone r e f =
-        record {
-          overlapping = λ n. conflict (eq-eqb (at choices a % 2) 1 e) n;
-          alone = λ _. subst (λ (x : ℕ). LeastFree (clashBy core start end words (2 * a) (taskAt costs core words lengths a)) x r) q f;
-        }
+    module _ (closes tops : List ℕ) (w : Closed words end closes tops a) where
+      closes-within : maxBelow (at closes) (2 * a) ≤ ends
+      unfolding closeBy
+      closes-within =
+          max-mono (at closes) (at end) (2 * a)
+          (λ y l. rw (w .closed y l) (cond-le (ltb 0 (at words y)) (le-refl (at end y)) zero-le))
 
-    pub ready-alone :
-        Room costs links choices core words lengths start end a
-        → Sized core start end words (2 * a) × (from ≤ maxBelow (at end) (2 * a))
-        × (maxBelow (at end) (2 * a) + at lengths (2 * a) + at costs a + at lengths (2 * a + 1) < 4294967296)
-    ready-alone room = (
-      record {
-        few = omega (arith, room .few);
-        cores = omega (arith, room .cores-all);
-        starts = omega (arith, room .starts-all);
-        ends = omega (arith, room .ends-all);
-        loads = omega (arith, room .loads-all);
-      },
-      omega (arith, earliest-top),
-      room .fits,
-    )
+      clash-closed :
+          (t : Task) (r : ℕ) → clashBy core start closes closes (2 * a) t r ≡ clashBy core start end words (2 * a) t r
+      unfolding clashBy
+      clash-closed t r =
+          let e : ℕ = r + t .read in
+          let f : ℕ = e + t .cost in
+          any-same _ _ (2 * a)
+          (λ y l.
+          rw (
+            meet-closed core start end words closes y (w .closed y l) (t .mine) (t .reads) r e,
+            meet-closed core start end words closes y (w .closed y l) (t .mine) (t .writes) f (f + t .write),
+          ))
+
+      pub starts-alone :
+          (r : ℕ) → at choices a % 2 ≡ 1 → LeastFree (clashBy core start closes closes (2 * a) (taskAt costs core words lengths a)) from r
+          → Starts costs sources targets choices core words lengths start end a r
+      starts-alone r e f =
+          let t = taskAt costs core words lengths a in
+          record {
+            overlapping = λ n. conflict (eq-eqb (at choices a % 2) 1 e) n;
+            alone =
+                λ _.
+                record {
+                  later = omega (arith, q, f .later);
+                  clear = sym (clash-closed t r) ∙ f .clear;
+                  least = λ x m n. sym (clash-closed t x) ∙ f .least x (omega (arith, q)) n;
+                };
+          }
+
+      pub ready-alone :
+          (low : ℕ) → low ≡ backTo tops from (2 * a)
+          → Sized core start closes closes (2 * a) × (low ≤ 2 * a)
+          × (from + at lengths (2 * a) + at costs a + at lengths (2 * a + 1) < 4294967296)
+          × (maxBelow (at closes) (2 * a) + at lengths (2 * a) + at costs a + at lengths (2 * a + 1) < 4294967296)
+          × ((y : ℕ) → y < low → at closes y ≤ from)
+      ready-alone low b = (
+        record {
+          few = omega (arith, room .few);
+          cores = omega (arith, room .cores-all);
+          starts = omega (arith, room .starts-all);
+          ends = omega (arith, room .few, w .closes-all);
+          loads = omega (arith, room .few, w .closes-all);
+        },
+        omega (arith, b, back-le tops from (2 * a)),
+        omega (arith, q, free-top, sent-top, room .fits),
+        omega (arith, closes-within, room .fits),
+        λ y l. back-over tops from (at closes) (2 * a) (λ x k z m. w .topped x z k m) y (omega (arith, b)),
+      )
+
+-- ---- two entries stored
+module _ (l : List ℕ) (i j u v : ℕ) (apart : i < j) (room : j < length l) where
+  abbrev stored : List ℕ
+  stored = set (set l i u) j v
+
+  pair-first : at stored i ≡ u
+  pair-first = getD-set-other (set l i u) j i v 0 (λ e. omega arith) ∙ getD-set-same l i u 0 (omega arith)
+
+  pair-second : at stored j ≡ v
+  pair-second = getD-set-same (set l i u) j v 0 (simp length-set room)
+
+  pair-other : (x : ℕ) → (x ≡ i → ⊥) → (x ≡ j → ⊥) → at stored x ≡ at l x
+  pair-other x n m = getD-set-other (set l i u) j x v 0 m ∙ getD-set-other l i x u 0 n
 
 -- ---- a column with the two phases of one more place
 column-pair :
     (f : ℕ → ℕ) (a : ℕ) (old new : List ℕ) (u v : ℕ) → 2 * a + 2 ≤ length old → Column f (2 * a) old new → u ≡ f (2 * a)
     → v ≡ f (2 * a + 1) → Column f (2 * (a + 1)) old (set (set new (2 * a) u) (2 * a + 1) v)
 column-pair f a old new u v room c p q =
-    let one = set new (2 * a) u in
-    let two = set one (2 * a + 1) v in
-    let long : length one ≡ length new = simp length-set in
-    let write : at two (2 * a + 1) ≡ v = getD-set-same one (2 * a + 1) v 0 (omega (arith, c .long)) in
-    let read : at two (2 * a) ≡ u =
-    getD-set-other one (2 * a + 1) (2 * a) v 0 (λ e. omega arith) ∙ getD-set-same new (2 * a) u 0 (omega (arith, c .long)) in
-    let other : (x : ℕ) → (x ≡ 2 * a → ⊥) → (x ≡ 2 * a + 1 → ⊥) → at two x ≡ at new x =
-    λ x n m. getD-set-other one (2 * a + 1) x v 0 m ∙ getD-set-other new (2 * a) x u 0 n in
+    let two = set (set new (2 * a) u) (2 * a + 1) v in
+    let near : 2 * a < 2 * a + 1 = omega arith in
+    let fits : 2 * a + 1 < length new = omega (arith, c .long) in
+    let other = pair-other new (2 * a) (2 * a + 1) u v near fits in
     record {
       long = simp length-set (c .long);
       each =
           λ x l.
           same-or-not x (2 * a)
-          (λ e. ap (at two) e ∙ read ∙ p ∙ ap f (sym e))
-          (λ n. same-or-not x (2 * a + 1) (λ e. ap (at two) e ∙ write ∙ q ∙ ap f (sym e)) (λ m. other x n m ∙ c .each x (omega arith)));
+          (λ e. ap (at two) e ∙ pair-first new (2 * a) (2 * a + 1) u v near fits ∙ p ∙ ap f (sym e))
+          (λ n.
+          same-or-not x (2 * a + 1)
+          (λ e. ap (at two) e ∙ pair-second new (2 * a) (2 * a + 1) u v near fits ∙ q ∙ ap f (sym e))
+          (λ m. other x n m ∙ c .each x (omega arith)));
       rest = λ x l. other x (λ e. omega arith) (λ e. omega arith) ∙ c .rest x (omega arith);
     }
+
+-- ---- no place yet
+zeros : (k i : ℕ) → at (replicate k 0) i ≡ 0
+zeros zero i = refl
+zeros (suc k) zero = refl
+zeros (suc k) (suc i) = zeros k i
+
+pub freed-none : (core end : List ℕ) → Freed core end (replicate 8 0) 0
+unfolding freeBy joinBelow
+freed-none core end = record { all = sym (length-replicate {A = ℕ} 8 0); each = λ c l. zeros 8 c }
+
+pub closed-none : (words end : List ℕ) → Closed words end (replicate 128 0) (replicate 129 0) 0
+closed-none words end =
+    record {
+      closes-all = sym (length-replicate {A = ℕ} 128 0);
+      tops-all = sym (length-replicate {A = ℕ} 129 0);
+      closed = λ y l. absurd (omega arith);
+      topped = λ y z l k. absurd (omega arith);
+    }
+
+-- ---- when a place is put behind the others: its core, and its ends
+module _ (core words end end' : List ℕ) (a : ℕ) (same : (y : ℕ) → y < 2 * a → at end' y ≡ at end y) where
+  pub freed-more :
+      (free free' : List ℕ) → Freed core end free a → at core (2 * a) < 8
+      → free' ≡ set free (at core (2 * a)) (max (at free (at core (2 * a))) (at end' (2 * a + 1)))
+      → Freed core end' free' (a + 1)
+  unfolding freeBy
+  freed-more free free' w few e =
+      let mine : ℕ = at core (2 * a) in
+      record {
+        all = rw e (simp length-set (w .all));
+        each =
+            λ x l.
+            let f : ℕ → ℕ = λ b. cond (eqb (at core (2 * b)) x) (at end' (2 * b + 1)) 0 in
+            let kept : at free x ≡ maxBelow f a = w .each x l ∙ max-same _ f a (λ b m. rw (same (2 * b + 1) (omega arith))) in
+            same-or-not x mine
+            (λ q.
+            let now : f a ≡ at end' (2 * a + 1) = rw (eq-eqb mine x (sym q)) in
+            rw (e, join-step max 0 f a, now, ← kept, q) (getD-set-same free mine _ 0 (omega (arith, w .all))))
+            (λ d.
+            let now : f a ≡ 0 = rw (ne-eqb mine x (λ q. d (sym q))) in
+            rw (e, join-step max 0 f a, now, getD-set-other free mine x _ 0 d) (omega (arith, kept)));
+      }
+
+  pub closed-more :
+      (closes tops closes' tops' : List ℕ) → a < 64 → Closed words end closes tops a
+      → closes' ≡ set (set closes (2 * a) (closeBy words end' (2 * a))) (2 * a + 1) (closeBy words end' (2 * a + 1))
+      → tops' ≡ set (set tops (2 * a + 1) (max (at tops (2 * a)) (closeBy words end' (2 * a)))) (2 * a + 2) (max (max (at tops (2 * a)) (closeBy words end' (2 * a))) (closeBy words end' (2 * a + 1)))
+      → Closed words end' closes' tops' (a + 1)
+  closed-more closes tops closes' tops' few w p q =
+      let u : ℕ = closeBy words end' (2 * a) in
+      let v : ℕ = closeBy words end' (2 * a + 1) in
+      let top : ℕ = max (at tops (2 * a)) u in
+      let near : 2 * a < 2 * a + 1 = omega arith in
+      let fits : 2 * a + 1 < length closes = omega (arith, w .closes-all) in
+      let near' : 2 * a + 1 < 2 * a + 2 = omega arith in
+      let fits' : 2 * a + 2 < length tops = omega (arith, w .tops-all) in
+      let first : at closes' (2 * a) ≡ u = rw p (pair-first closes (2 * a) (2 * a + 1) u v near fits) in
+      let second : at closes' (2 * a + 1) ≡ v = rw p (pair-second closes (2 * a) (2 * a + 1) u v near fits) in
+      let before : (y : ℕ) → y < 2 * a → at closes' y ≡ at closes y =
+      λ y l. rw p (pair-other closes (2 * a) (2 * a + 1) u v near fits y (λ e. omega arith) (λ e. omega arith)) in
+      let top-first : at tops' (2 * a + 1) ≡ top = rw q (pair-first tops (2 * a + 1) (2 * a + 2) top (max top v) near' fits') in
+      let top-second : at tops' (2 * a + 2) ≡ max top v = rw q (pair-second tops (2 * a + 1) (2 * a + 2) top (max top v) near' fits') in
+      let tops-before : (y : ℕ) → y ≤ 2 * a → at tops' y ≡ at tops y =
+      λ y l. rw q (pair-other tops (2 * a + 1) (2 * a + 2) top (max top v) near' fits' y (λ e. omega arith) (λ e. omega arith)) in
+      let up-to : (z : ℕ) → z < 2 * a → at closes' z ≤ at tops (2 * a) =
+      λ z l. omega (arith, before z l, w .topped (2 * a) z (omega arith) l) in
+      let read : (z : ℕ) → z < 2 * a + 1 → at closes' z ≤ top =
+      λ z l. same-or-not z (2 * a) (λ e. rw e (omega (arith, first))) (λ d. omega (arith, up-to z (omega arith))) in
+      record {
+        closes-all = rw p (simp length-set (w .closes-all));
+        tops-all = rw q (simp length-set (w .tops-all));
+        closed =
+            λ y l.
+            same-or-not y (2 * a)
+            (λ e. rw e first)
+            (λ d.
+            same-or-not y (2 * a + 1)
+            (λ e. rw e second)
+            (λ d'. before y (omega arith) ∙ w .closed y (omega arith) ∙ sym (close-kept y (omega arith))));
+        topped =
+            λ y z l k.
+            same-or-not y (2 * a + 2)
+            (λ e.
+            same-or-not z (2 * a + 1)
+            (λ o. rw (e, o) (omega (arith, top-second, second)))
+            (λ d. rw e (omega (arith, top-second, read z (omega arith)))))
+            (λ d.
+            same-or-not y (2 * a + 1)
+            (λ e. rw e (omega (arith, top-first, read z (omega arith))))
+            (λ d'. omega (arith, tops-before y (omega arith), before z (omega arith), w .topped y z (omega arith) k)));
+      }
+    where
+      close-kept : (y : ℕ) → y < 2 * a → closeBy words end' y ≡ closeBy words end y
+      close-kept y l = close-cong words end' end y (same y l)
 
 -- a phase of columns is met as one of phases with its numbers
 meet-same :
@@ -115,6 +292,11 @@ pub record Done (t : Table) (start₀ end₀ start end : List ℕ) (a : ℕ) : T
   pub starts : Column (ofPhase (t .R) (t .W)) (2 * a) start₀ start
   pub ends : Column (ofPhase (t .E) (t .F)) (2 * a) end₀ end
 
+-- what a further place leaves as it was
+pub done-kept : (t : Table) (start₀ end₀ start end start' end' : List ℕ) (a : ℕ) → Done t start₀ end₀ start end a
+    → Done t start₀ end₀ start' end' (a + 1) → (y : ℕ) → y < 2 * a → at end' y ≡ at end y
+done-kept t start₀ end₀ start end start' end' a d d' y l = d' .ends .each y (omega arith) ∙ sym (d .ends .each y l)
+
 pub done-none : (t : Table) (start end : List ℕ) → Done t start end start end 0
 done-none t start end =
     record {
@@ -124,7 +306,8 @@ done-none t start end =
 
 module _ (bus : Bus) (costs sources targets amounts links choices core words lengths : List ℕ)
     (ready : Ready bus costs sources targets amounts links choices)
-    (prep : Prepared (candidateBy bus costs sources targets amounts choices) core words lengths) where
+    (prep : Prepared (candidateBy bus costs sources targets amounts choices) core words lengths)
+    (few : FewCores choices (length costs)) where
   abbrev c : Candidate
   c = candidateBy bus costs sources targets amounts choices
 
@@ -158,12 +341,17 @@ module _ (bus : Bus) (costs sources targets amounts links choices core words len
         max-le (at end) (2 * a) (makespan a t)
         (λ y m. omega (arith, d .ends .each y m, end-within c l (startsOf c l k) a y m))
 
-    pub room-next : Room costs links choices core words lengths start end a
+    core-read : (b : ℕ) → b < k → at core (2 * b) ≡ coreIn choices b
+    core-read b m = prep .cores (2 * b) (omega arith) ∙ ap (coreIn choices) (half-even b)
+
+    pub room-next : Room costs sources targets links choices core words lengths start end a
     room-next =
         record {
           few = omega (arith, ready .few);
+          few-edges = ready .edges .few;
+          few-cores = omega (arith, core-read a h, few a h);
           costs-all = h;
-          links-all = omega (arith, ready .links-all);
+          chained = ready .chained;
           choices-all = omega (arith, ready .choices-all);
           cores-all = omega (arith, prep .cores-all);
           loads-all = omega (arith, prep .loads-all);
@@ -173,17 +361,78 @@ module _ (bus : Bus) (costs sources targets amounts links choices core words len
           fits = omega (arith, ends-within, room-at a h);
         }
 
-    core-read : (b : ℕ) → b < k → at core (2 * b) ≡ coreIn choices b
-    core-read b m = prep .cores (2 * b) (omega arith) ∙ ap (coreIn choices) (half-even b)
+    -- "not before the F of any source or of any earlier-listed task on its core": by edges and by cores, as over places
+    abbrev table : Table
+    table = windows c l (startsOf c l k)
 
-    earliest-same : earliestBy links core end a ≡ earliest c l (startsOf c l k) a
-    unfolding earliest heldBy placed
-    earliest-same =
-        max-same _ _ a
+    abbrev held : ℕ → Bool
+    held b = isSource (c .plan) b a || eqb (coreIn choices b) (coreIn choices a)
+
+    abbrev latest : ℕ
+    latest = maxBelow (λ b. cond (held b) (table .F b) 0) a
+
+    end-at : (b : ℕ) → b < a → at end (2 * b + 1) ≡ table .F b
+    unfolding placed
+    end-at b m = d .ends .each (2 * b + 1) (omega arith) ∙ of-odd (table .E) (table .F) b
+
+    held-latest : (b : ℕ) → b < a → held b ≡ true → at end (2 * b + 1) ≤ latest
+    held-latest b m t =
+        let f : cond (held b) (table .F b) 0 ≡ table .F b = rw t in
+        omega (arith, end-at b m, f, max-ge (λ x. cond (held x) (table .F x) 0) a b m)
+
+    free-latest : freeBy core end (at core (2 * a)) a ≤ latest
+    unfolding freeBy
+    free-latest =
+        max-le _ a latest
         (λ b m.
-        let link : not (eqb (at links (64 * a + b)) 0) ≡ isSource (c .plan) b a = ready .linked a b m h in
-        let f : at end (2 * b + 1) ≡ t .F b = d .ends .each (2 * b + 1) (omega arith) ∙ of-odd (t .E) (t .F) b in
-        rw (link, core-read b (omega arith), core-read a h, f))
+        either (eqb (at core (2 * b)) (at core (2 * a)))
+        (λ t. rw t (held-latest b m (or-right (isSource (c .plan) b a) _ (rw (core-read b (omega arith), core-read a h) at t))))
+        (λ t. rw t zero-le))
+
+    sent-latest : sentBy sources targets end a (length sources) ≤ latest
+    unfolding sentBy isSource
+    sent-latest =
+        max-le _ (length sources) latest
+        (λ e m.
+        either (eqb (at targets e) a)
+        (λ t.
+        let b : ℕ = at sources e in
+        let q = eqb-true (at targets e) a t in
+        let first : b < a = omega (arith, q, ready .chained .before e m (omega (arith, q))) in
+        let here : isSource (c .plan) b a ≡ true = any-here _ (length sources) e m (and-true (eqb b b) (eqb (at targets e) a) (eq-eqb b b refl) t) in
+        rw t (held-latest b first (or-left (isSource (c .plan) b a) (eqb (coreIn choices b) (coreIn choices a)) here)))
+        (λ t. rw t zero-le))
+
+    source-sent : (b : ℕ) → isSource (c .plan) b a ≡ true → at end (2 * b + 1) ≤ sentBy sources targets end a (length sources)
+    unfolding sentBy isSource
+    source-sent b t =
+        let w = any-found _ (length sources) t in
+        let e : ℕ = w .0 in
+        let both = and-both (eqb (at sources e) b) (eqb (at targets e) a) (w .2) in
+        let same = eqb-true (at sources e) b (both .0) in
+        let f : cond (eqb (at targets e) a) (at end (2 * at sources e + 1)) 0 ≡ at end (2 * b + 1) = rw (both .1, same) in
+        omega (arith, f, max-ge (λ x. cond (eqb (at targets x) a) (at end (2 * at sources x + 1)) 0) (length sources) e (w .1))
+
+    core-free : (b : ℕ) → b < a → eqb (coreIn choices b) (coreIn choices a) ≡ true → at end (2 * b + 1) ≤ freeBy core end (at core (2 * a)) a
+    unfolding freeBy
+    core-free b m t =
+        let f : cond (eqb (at core (2 * b)) (at core (2 * a))) (at end (2 * b + 1)) 0 ≡ at end (2 * b + 1) = rw (core-read b (omega arith), core-read a h, t) in
+        omega (arith, f, max-ge (λ x. cond (eqb (at core (2 * x)) (at core (2 * a))) (at end (2 * x + 1)) 0) a b m)
+
+    latest-held : latest ≤ earliestBy sources targets core end a
+    latest-held =
+        max-le _ a (earliestBy sources targets core end a)
+        (λ b m.
+        either (isSource (c .plan) b a)
+        (λ t. rw t (omega (arith, end-at b m, source-sent b t)))
+        (λ t.
+        either (eqb (coreIn choices b) (coreIn choices a))
+        (λ u. rw (t, u) (omega (arith, end-at b m, core-free b m u)))
+        (λ u. rw (t, u) zero-le)))
+
+    earliest-same : earliestBy sources targets core end a ≡ earliest c l (startsOf c l k) a
+    unfolding earliest
+    earliest-same = omega (arith, free-latest, sent-latest, latest-held)
 
     clash-same :
         (r : ℕ)
@@ -211,7 +460,7 @@ module _ (bus : Bus) (costs sources targets amounts links choices core words len
         (core-read a h) (prep .loads (2 * a + 1) (omega arith)) (omega arith) (omega arith) q s e w in
         rw (one, two))
 
-    module _ (r : ℕ) (o : Starts costs links choices core words lengths start end a r) where
+    module _ (r : ℕ) (o : Starts costs sources targets choices core words lengths start end a r) where
       start-placed : r ≡ t .R a
       unfolding placed
       start-placed =

@@ -1,24 +1,44 @@
 -- Step 2 of the list rule on columns: cores, words, lengths and windows by phase, execute times and choices by place, and the
--- matrix of links. Assumes nothing.
+-- chains of edges. Assumes nothing.
 use Prim.Native.Nat.{ℕ, _+_, _*_, _-_, _/_, _≤_, _<_, max}
 use mathlib.Core.Path.{_≡_}
 use mathlib.Core.Bool.{Bool, true, false, cond, not, _||_}
 use mathlib.Core.List.{List}
 use lib.ListN.{length}
-use lib.Dec.{eqb}
+use lib.Dec.{eqb, ltb}
 use Rattle.model.specs.Below.{at, maxBelow, anyBelow}
 use Rattle.model.specs.Plan.{tasks}
 use Rattle.model.specs.ListRule.{Candidate, coreIn, exclusive, LeastFree}
 use Rattle.contention.specs.Columns.{rivalBy}
+use Rattle.placing.specs.Candidates.{Chained}
 
 -- ---- "not before the F of any source or of any earlier-listed task on its core"
--- F of place b where it holds up a place on core `mine` whose links begin at `row`
-unfoldable pub heldBy : List ℕ → List ℕ → List ℕ → ℕ → ℕ → ℕ → ℕ
-heldBy links core end row mine b =
-    cond (not (eqb (at links (row + b)) 0) || eqb (at core (2 * b)) mine) (at end (2 * b + 1)) 0
+-- the greatest F of the first a places on core `mine`
+unfoldable pub freeBy : List ℕ → List ℕ → ℕ → ℕ → ℕ
+freeBy core end mine a = maxBelow (λ b. cond (eqb (at core (2 * b)) mine) (at end (2 * b + 1)) 0) a
 
-abbrev pub earliestBy : List ℕ → List ℕ → List ℕ → ℕ → ℕ
-earliestBy links core end a = maxBelow (heldBy links core end (64 * a) (at core (2 * a))) a
+-- the greatest F of the sources of place a, along the first m edges
+unfoldable pub sentBy : List ℕ → List ℕ → List ℕ → ℕ → ℕ → ℕ
+sentBy sources targets end a m = maxBelow (λ e. cond (eqb (at targets e) a) (at end (2 * at sources e + 1)) 0) m
+
+abbrev pub earliestBy : List ℕ → List ℕ → List ℕ → List ℕ → ℕ → ℕ
+earliestBy sources targets core end a = max (freeBy core end (at core (2 * a)) a) (sentBy sources targets end a (length sources))
+
+-- `free` has at each core below 8 the greatest F of its places so far
+pub record Freed (core end free : List ℕ) (a : ℕ) : Type 0 where
+  pub all : 8 ≡ length free
+  pub each : (c : ℕ) → c < 8 → at free c ≡ freeBy core end c a
+
+-- ---- phases that carry no words are closed: they end at 0, so that no window meets them
+unfoldable pub closeBy : List ℕ → List ℕ → ℕ → ℕ
+closeBy words end y = cond (ltb 0 (at words y)) (at end y) 0
+
+-- `closes` has the ends so far, and `tops` at y one that is not before any of those below y
+pub record Closed (words end closes tops : List ℕ) (a : ℕ) : Type 0 where
+  pub closes-all : 128 ≡ length closes
+  pub tops-all : 129 ≡ length tops
+  pub closed : (y : ℕ) → y < 2 * a → at closes y ≡ closeBy words end y
+  pub topped : (y z : ℕ) → y ≤ 2 * a → z < y → at closes z ≤ at tops y
 
 -- ---- "the least such time at which neither of its phases overlaps a phase of an earlier-listed task on another core"
 -- a task to be placed: its core, the words of its phases, and the lengths of its three windows
@@ -65,17 +85,19 @@ nextBy core start end words count t r =
     (metUntil core start end words count (t .mine) (t .writes) w (w + t .write) - (t .read + t .cost)))
 
 -- ---- the start r of place a, by its mode
-pub record Starts (costs links choices core words lengths start end : List ℕ) (a r : ℕ) : Type 0 where
-  pub overlapping : exclusive choices a ≡ false → r ≡ earliestBy links core end a
+pub record Starts (costs sources targets choices core words lengths start end : List ℕ) (a r : ℕ) : Type 0 where
+  pub overlapping : exclusive choices a ≡ false → r ≡ earliestBy sources targets core end a
   pub alone :
       exclusive choices a ≡ true
-      → LeastFree (clashBy core start end words (2 * a) (taskAt costs core words lengths a)) (earliestBy links core end a) r
+      → LeastFree (clashBy core start end words (2 * a) (taskAt costs core words lengths a)) (earliestBy sources targets core end a) r
 
 -- what is read to place a: the columns have it, and behind the greatest end before it there is room for its windows
-pub record Room (costs links choices core words lengths start end : List ℕ) (a : ℕ) : Type 0 where
+pub record Room (costs sources targets links choices core words lengths start end : List ℕ) (a : ℕ) : Type 0 where
   pub few : a < 64
+  pub few-edges : length sources ≤ 256
+  pub few-cores : at core (2 * a) < 8
   pub costs-all : a < length costs
-  pub links-all : 64 * a + 64 ≤ length links
+  pub chained : Chained sources targets links (length costs)
   pub choices-all : a < length choices
   pub cores-all : 2 * a + 2 ≤ length core
   pub loads-all : 2 * a + 2 ≤ length words

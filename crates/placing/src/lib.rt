@@ -1,16 +1,15 @@
 // Step 2 of the list rule: the windows of a candidate's phases, placed in list order. Columns are by phase as everywhere:
 // phase 2a is place a's read, 2a + 1 its write.
 ghost use mathlib.Core.Path.{_≡_};
-ghost use mathlib.Core.Bool.{cond, not, _||_};
+ghost use mathlib.Core.Bool.{cond};
 ghost use mathlib.Core.List.{_++_};
 ghost use Prim.Native.Nat.{ℕ, _+_, _*_, _-_, _≤_, _<_, max};
-ghost use lib.Dec.{eqb};
 ghost use lib.ListN.{length, take, drop, set};
 ghost use Rattle.model.specs.Below.{at, maxBelow};
 ghost use Rattle.model.specs.ListRule.{LeastFree, placed};
 ghost use Rattle.contention.specs.Columns.{Sized, startColumn, endColumn};
-ghost use Rattle.placing.specs.Candidates.{candidateBy, Ready};
-ghost use Rattle.placing.specs.Starts.{heldBy, earliestBy, task, taskAt, endMet, metUntil, clashBy, nextBy, Starts, Room, Prepared};
+ghost use Rattle.placing.specs.Candidates.{candidateBy, Ready, FewCores, Chained};
+ghost use Rattle.placing.specs.Starts.{freeBy, sentBy, earliestBy, Freed, closeBy, Closed, task, taskAt, endMet, metUntil, clashBy, nextBy, Starts, Room, Prepared};
 use model::Bus;
 
 // The later of two times.
@@ -20,33 +19,74 @@ pub fn later(x: u32, y: u32) -> u32
     if x < y { y } else { x }
 }
 
-// F of an earlier place, where it holds another up: as its source, or on its core.
-fn held_end(link: u8, core: u32, mine: u32, end: u32) -> u32
-    ensures { λ r. ⌜ r ≡ cond (not (eqb link 0) || eqb core mine) end 0 ⌝ }
+fn index(x: u8) -> usize
+    ensures { λ r. ⌜ r ≡ x ⌝ }
 {
-    if (link != 0) | (core == mine) { end } else { 0 }
+    x as usize
 }
 
-fn held_at(links: &[u8], core: &[u32], end: &[u32], row: usize, mine: u32, b: usize) -> u32
-    requires { ⌜ (row + b < length (now links)) × (2 * b + 2 ≤ length (now core)) × (2 * b + 2 ≤ length (now end)) ⌝ }
-    ensures { λ r. ⌜ r ≡ heldBy (now (links .entry)) (now (core .entry)) (now (end .entry)) row mine b ⌝ }
+fn number(x: u16) -> usize
+    ensures { λ r. ⌜ r ≡ x ⌝ }
 {
-    let read = 2 * b;
-    held_end(links[row + b], core[read], mine, end[read + 1])
+    x as usize
+}
+
+fn core_index(x: u32) -> usize
+    ensures { λ r. ⌜ r ≡ x ⌝ }
+{
+    x as usize
+}
+
+// F of the source of edge e.
+fn source_end(sources: &[u8], end: &[u32], e: usize) -> u32
+    requires { ⌜ (e < length (now sources)) × (2 * at (now sources) e + 2 ≤ length (now end)) ⌝ }
+    ensures { λ r. ⌜ r ≡ at (now (end .entry)) (2 * at (now (sources .entry)) e + 1) ⌝ }
+{
+    let b = index(sources[e]);
+    end[2 * b + 1]
+}
+
+// The greatest F of the sources of place a, along the chain of its edges. No code reads the targets: the chain stands for them.
+fn sources_end(
+    sources: &[u8],
+    targets: &[u8],
+    links: &[u16],
+    end: &[u32],
+    places: usize,
+    a: usize,
+) -> u32
+    requires { ⌜ (length (now sources) ≤ 256) × (a < 64) × (a < places) × Chained (now sources) (now targets) (now links) places × (2 * a + 2 ≤ length (now end)) ⌝ }
+    ensures { λ r. ⌜ r ≡ sentBy (now (sources .entry)) (now (targets .entry)) (now (end .entry)) a (length (now (sources .entry))) ⌝ }
+{
+    let mut from: u32 = 0;
+    let mut left = number(links[a]);
+    while 0 < left {
+        let e = left - 1;
+        from = later(from, source_end(sources, end, e));
+        left = number(links[64 + e]);
+    }
+    from
 }
 
 // The earliest R of place a: not before the F of any source or of any earlier place on its core.
-fn earliest_start(links: &[u8], core: &[u32], end: &[u32], a: usize) -> u32
-    requires { ⌜ (a < 64) × (64 * a + 64 ≤ length (now links)) × (2 * a + 2 ≤ length (now core)) × (2 * a + 2 ≤ length (now end)) ⌝ }
-    ensures { λ r. ⌜ r ≡ earliestBy (now (links .entry)) (now (core .entry)) (now (end .entry)) a ⌝ }
+fn earliest_start(
+    sources: &[u8],
+    targets: &[u8],
+    links: &[u16],
+    core: &[u32],
+    end: &[u32],
+    free: &[u32],
+    places: usize,
+    a: usize,
+) -> u32
+    requires { ⌜ (length (now sources) ≤ 256) × (a < 64) × (a < places) × Chained (now sources) (now targets) (now links) places × (2 * a + 2 ≤ length (now core)) × (2 * a + 2 ≤ length (now end)) × (at (now core) (2 * a) < 8) × Freed (now core) (now end) (now free) a ⌝ }
+    ensures { λ r. ⌜ r ≡ earliestBy (now (sources .entry)) (now (targets .entry)) (now (core .entry)) (now (end .entry)) a ⌝ }
 {
-    let mine = core[2 * a];
-    let row = 64 * a;
-    let mut from: u32 = 0;
-    for b in 0..a {
-        from = later(from, held_at(links, core, end, row, mine, b));
-    }
-    from
+    let mine = core_index(core[2 * a]);
+    later(
+        free[mine],
+        sources_end(sources, targets, links, end, places, a),
+    )
 }
 
 fn end_if(met: bool, end: u32) -> u32
@@ -59,48 +99,44 @@ fn end_if(met: bool, end: u32) -> u32
 fn end_met(
     core: &[u32],
     start: &[u32],
-    end: &[u32],
-    words: &[u32],
+    closes: &[u32],
     y: usize,
     mine: u32,
     own: u32,
     from: u32,
     to: u32,
 ) -> u32
-    requires { ⌜ Sized (now core) (now start) (now end) (now words) (y + 1) ⌝ }
-    ensures { λ r. ⌜ r ≡ endMet (now (core .entry)) (now (start .entry)) (now (end .entry)) (now (words .entry)) mine own from to y ⌝ }
+    requires { ⌜ Sized (now core) (now start) (now closes) (now closes) (y + 1) ⌝ }
+    ensures { λ r. ⌜ r ≡ endMet (now (core .entry)) (now (start .entry)) (now (closes .entry)) (now (closes .entry)) mine own from to y ⌝ }
 {
-    let ends = end[y];
+    let ends = closes[y];
     end_if(
-        contention::rival(mine, own, from, to, core[y], words[y], start[y], ends),
+        contention::rival(mine, own, from, to, core[y], ends, start[y], ends),
         ends,
     )
 }
 
-// The greatest end of the first `count` phases that the window meets, 0 of none.
+// The greatest end of the first `count` phases that the window meets, 0 of none. Those below `low` end before it.
 fn met_until(
     core: &[u32],
     start: &[u32],
-    end: &[u32],
-    words: &[u32],
+    closes: &[u32],
+    low: usize,
     count: usize,
     mine: u32,
     own: u32,
     from: u32,
     to: u32,
 ) -> u32
-    requires { ⌜ Sized (now core) (now start) (now end) (now words) count ⌝ }
-    ensures { λ r. ⌜ r ≡ metUntil (now (core .entry)) (now (start .entry)) (now (end .entry)) (now (words .entry)) count mine own from to ⌝ }
+    requires { ⌜ Sized (now core) (now start) (now closes) (now closes) count × (low ≤ count) × ((y : ℕ) → y < low → at (now closes) y ≤ from) ⌝ }
+    ensures { λ r. ⌜ r ≡ metUntil (now (core .entry)) (now (start .entry)) (now (closes .entry)) (now (closes .entry)) count mine own from to ⌝ }
 {
     if own == 0 {
         return 0;
     }
     let mut until: u32 = 0;
-    for y in 0..count {
-        until = later(
-            until,
-            end_met(core, start, end, words, y, mine, own, from, to),
-        );
+    for y in low..count {
+        until = later(until, end_met(core, start, closes, y, mine, own, from, to));
     }
     until
 }
@@ -117,8 +153,8 @@ fn back(time: u32, by: u32) -> u32
 fn next_start(
     core: &[u32],
     start: &[u32],
-    end: &[u32],
-    words: &[u32],
+    closes: &[u32],
+    low: usize,
     count: usize,
     mine: u32,
     reads: u32,
@@ -128,14 +164,14 @@ fn next_start(
     write: u32,
     r: u32,
 ) -> u32
-    requires { ⌜ Sized (now core) (now start) (now end) (now words) count × (r + read + cost + write < 4294967296) ⌝ }
-    ensures { λ x. ⌜ x ≡ nextBy (now (core .entry)) (now (start .entry)) (now (end .entry)) (now (words .entry)) count (task mine reads writes read cost write) r ⌝ }
+    requires { ⌜ Sized (now core) (now start) (now closes) (now closes) count × (low ≤ count) × (r + read + cost + write < 4294967296) × ((y : ℕ) → y < low → at (now closes) y ≤ r) ⌝ }
+    ensures { λ x. ⌜ x ≡ nextBy (now (core .entry)) (now (start .entry)) (now (closes .entry)) (now (closes .entry)) count (task mine reads writes read cost write) r ⌝ }
 {
     let e = r + read;
     let w = e + cost;
     let f = w + write;
-    let x = met_until(core, start, end, words, count, mine, reads, r, e);
-    let y = met_until(core, start, end, words, count, mine, writes, w, f);
+    let x = met_until(core, start, closes, low, count, mine, reads, r, e);
+    let y = met_until(core, start, closes, low, count, mine, writes, w, f);
     later(r, later(x, back(y, read + cost)))
 }
 
@@ -143,8 +179,8 @@ fn next_start(
 fn exclusive_start(
     core: &[u32],
     start: &[u32],
-    end: &[u32],
-    words: &[u32],
+    closes: &[u32],
+    low: usize,
     count: usize,
     mine: u32,
     reads: u32,
@@ -154,16 +190,16 @@ fn exclusive_start(
     write: u32,
     from: u32,
 ) -> u32
-    requires { ⌜ Sized (now core) (now start) (now end) (now words) count × (from ≤ maxBelow (at (now end)) count) × (maxBelow (at (now end)) count + read + cost + write < 4294967296) ⌝ }
-    ensures { λ r. ⌜ LeastFree (clashBy (now (core .entry)) (now (start .entry)) (now (end .entry)) (now (words .entry)) count (task mine reads writes read cost write)) from r ⌝ }
+    requires { ⌜ Sized (now core) (now start) (now closes) (now closes) count × (low ≤ count) × (from + read + cost + write < 4294967296) × (maxBelow (at (now closes)) count + read + cost + write < 4294967296) × ((y : ℕ) → y < low → at (now closes) y ≤ from) ⌝ }
+    ensures { λ r. ⌜ LeastFree (clashBy (now (core .entry)) (now (start .entry)) (now (closes .entry)) (now (closes .entry)) count (task mine reads writes read cost write)) from r ⌝ }
 {
     let mut r = from;
     loop {
         let next = next_start(
             core,
             start,
-            end,
-            words,
+            closes,
+            low,
             count,
             mine,
             reads,
@@ -183,19 +219,24 @@ fn exclusive_start(
 // R of place a, by its mode.
 fn start_at(
     costs: &[u32],
-    links: &[u8],
+    sources: &[u8],
+    targets: &[u8],
+    links: &[u16],
     choices: &[u32],
     core: &[u32],
     words: &[u32],
     lengths: &[u32],
     start: &[u32],
     end: &[u32],
+    free: &[u32],
+    closes: &[u32],
+    tops: &[u32],
     a: usize,
 ) -> u32
-    requires { ⌜ Room (now costs) (now links) (now choices) (now core) (now words) (now lengths) (now start) (now end) a ⌝ }
-    ensures { λ r. ⌜ Starts (now (costs .entry)) (now (links .entry)) (now (choices .entry)) (now (core .entry)) (now (words .entry)) (now (lengths .entry)) (now (start .entry)) (now (end .entry)) a r ⌝ }
+    requires { ⌜ Room (now costs) (now sources) (now targets) (now links) (now choices) (now core) (now words) (now lengths) (now start) (now end) a × Freed (now core) (now end) (now free) a × Closed (now words) (now end) (now closes) (now tops) a ⌝ }
+    ensures { λ r. ⌜ Starts (now (costs .entry)) (now (sources .entry)) (now (targets .entry)) (now (choices .entry)) (now (core .entry)) (now (words .entry)) (now (lengths .entry)) (now (start .entry)) (now (end .entry)) a r ⌝ }
 {
-    let from = earliest_start(links, core, end, a);
+    let from = earliest_start(sources, targets, links, core, end, free, costs.len(), a);
     if choices[a] % 2 != 1 {
         return from;
     }
@@ -203,8 +244,8 @@ fn start_at(
     exclusive_start(
         core,
         start,
-        end,
-        words,
+        closes,
+        contention::back_to(tops, x, from),
         x,
         core[x],
         words[x],
@@ -232,6 +273,38 @@ fn put_windows(costs: &[u32], lengths: &[u32], a: usize, r: u32, start: &mut [u3
     end[y] = f;
 }
 
+// The end of phase y that a window may meet: 0 where it carries no words.
+fn close_at(words: &[u32], end: &[u32], y: usize) -> u32
+    requires { ⌜ (y < length (now words)) × (y < length (now end)) × (y < 128) ⌝ }
+    ensures { λ r. ⌜ r ≡ closeBy (now (words .entry)) (now (end .entry)) y ⌝ }
+{
+    if 0 < words[y] { end[y] } else { 0 }
+}
+
+// Place a stands: its ends that a window may meet, and the greatest of those so far.
+fn close_place(words: &[u32], end: &[u32], a: usize, closes: &mut [u32], tops: &mut [u32])
+    requires { ⌜ (a < 64) × (2 * a + 2 ≤ length (now words)) × (2 * a + 2 ≤ length (now end)) × (128 ≤ length (now closes)) × (129 ≤ length (now tops)) ⌝ }
+    ensures { λ _. ⌜ (now (closes .exit) ≡ set (set (now (closes .entry)) (2 * a) (closeBy (now (words .entry)) (now (end .entry)) (2 * a))) (2 * a + 1) (closeBy (now (words .entry)) (now (end .entry)) (2 * a + 1))) × (now (tops .exit) ≡ set (set (now (tops .entry)) (2 * a + 1) (max (at (now (tops .entry)) (2 * a)) (closeBy (now (words .entry)) (now (end .entry)) (2 * a)))) (2 * a + 2) (max (max (at (now (tops .entry)) (2 * a)) (closeBy (now (words .entry)) (now (end .entry)) (2 * a))) (closeBy (now (words .entry)) (now (end .entry)) (2 * a + 1)))) ⌝ }
+{
+    let x = 2 * a;
+    let read = close_at(words, end, x);
+    let write = close_at(words, end, x + 1);
+    let top = later(tops[x], read);
+    closes[x] = read;
+    closes[x + 1] = write;
+    tops[x + 1] = top;
+    tops[x + 2] = later(top, write);
+}
+
+// Place a stands: its core is free from its F on.
+fn free_core(core: &[u32], end: &[u32], a: usize, free: &mut [u32])
+    requires { ⌜ (a < 64) × (2 * a + 2 ≤ length (now core)) × (2 * a + 2 ≤ length (now end)) × (at (now core) (2 * a) < 8) × (8 ≤ length (now free)) ⌝ }
+    ensures { λ _. ⌜ now (free .exit) ≡ set (now (free .entry)) (at (now (core .entry)) (2 * a)) (max (at (now (free .entry)) (at (now (core .entry)) (2 * a))) (at (now (end .entry)) (2 * a + 1))) ⌝ }
+{
+    let mine = core_index(core[2 * a]);
+    free[mine] = later(free[mine], end[2 * a + 1]);
+}
+
 // Step 2: the windows of all places, in list order.
 pub fn place(
     bus: Bus,
@@ -239,7 +312,7 @@ pub fn place(
     sources: &[u8],
     targets: &[u8],
     amounts: &[u16],
-    links: &[u8],
+    links: &[u16],
     choices: &[u32],
     core: &[u32],
     words: &[u32],
@@ -247,11 +320,31 @@ pub fn place(
     start: &mut [u32],
     end: &mut [u32],
 )
-    requires { ⌜ Ready bus (now costs) (now sources) (now targets) (now amounts) (now links) (now choices) × Prepared (candidateBy bus (now costs) (now sources) (now targets) (now amounts) (now choices)) (now core) (now words) (now lengths) × (2 * length (now costs) ≤ length (now start)) × (2 * length (now costs) ≤ length (now end)) ⌝ }
+    requires { ⌜ Ready bus (now costs) (now sources) (now targets) (now amounts) (now links) (now choices) × Prepared (candidateBy bus (now costs) (now sources) (now targets) (now amounts) (now choices)) (now core) (now words) (now lengths) × (2 * length (now costs) ≤ length (now start)) × (2 * length (now costs) ≤ length (now end)) × FewCores (now choices) (length (now costs)) ⌝ }
     ensures { λ _. ⌜ (now (start .exit) ≡ startColumn (length (now (costs .entry))) (placed (candidateBy bus (now (costs .entry)) (now (sources .entry)) (now (targets .entry)) (now (amounts .entry)) (now (choices .entry))) (take (2 * length (now (costs .entry))) (now (lengths .entry)))) ++ drop (2 * length (now (costs .entry))) (now (start .entry))) × (now (end .exit) ≡ endColumn (length (now (costs .entry))) (placed (candidateBy bus (now (costs .entry)) (now (sources .entry)) (now (targets .entry)) (now (amounts .entry)) (now (choices .entry))) (take (2 * length (now (costs .entry))) (now (lengths .entry)))) ++ drop (2 * length (now (costs .entry))) (now (end .entry))) ⌝ }
 {
+    let mut free = [0u32; 8];
+    let mut closes = [0u32; 128];
+    let mut tops = [0u32; 129];
     for a in 0..costs.len() {
-        let r = start_at(costs, links, choices, core, words, lengths, start, end, a);
+        let r = start_at(
+            costs,
+            sources,
+            targets,
+            links,
+            choices,
+            core,
+            words,
+            lengths,
+            start,
+            end,
+            &free,
+            &closes,
+            &tops,
+            a,
+        );
         put_windows(costs, lengths, a, r, start, end);
+        close_place(words, end, a, &mut closes, &mut tops);
+        free_core(core, end, a, &mut free);
     }
 }

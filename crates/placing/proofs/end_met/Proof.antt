@@ -24,12 +24,6 @@ mul-rival-2 c = search needs
 shared-slice-read-rival-2 : tie.Need-shared-slice-read-rival-2
 shared-slice-read-rival-2 c = search needs
 
-mul-rival-3 : tie.Need-mul-rival-3
-mul-rival-3 c = search needs
-
-shared-slice-read-rival-3 : tie.Need-shared-slice-read-rival-3
-shared-slice-read-rival-3 c = search needs
-
 rival-requires : tie.Need-rival-requires
 rival-requires c κs = search needs
 
@@ -50,8 +44,6 @@ end-met-spec =
     shared-slice-read-rival
     mul-rival-2
     shared-slice-read-rival-2
-    mul-rival-3
-    shared-slice-read-rival-3
     rival-requires
     end-if-requires
     returns)

@@ -1,7 +1,7 @@
 -- `placing::met_until` meets its contract. The greatest end met of the phases passed.
-use Rattle.placing.proofs.Exclusive.{idle-until}
+use Rattle.placing.proofs.Exclusive.{idle-until, met-none}
 use Rattle.model.proofs.Below.{join-step, join-end}
-use Rattle.model.specs.Below.{joinBelow, maxBelow}
+use Rattle.model.specs.Below.{maxBelow}
 use Rattle.contention.proofs.Rivalry.{sized-less}
 use Rattle.placing.specs.Starts.{endMet}
 use Prim.Native.Nat.{_≤_, _<_, _-_, max}
@@ -12,20 +12,19 @@ use Rattle.placing.proofs.met_until.Statement.{statement}
 use Rattle.placing.proofs.met_until.Tie as tie
 
 abbrev Inv-loop : tie.InvT-loop
-Inv-loop core start end words count mine own from to until₀ y₀ until y = (y ≤ count) × (until ≡ maxBelow (endMet core start end words mine own from to) y)
+Inv-loop core start closes low count mine own from to until₀ y₀ until y = (y ≤ count) × (until ≡ maxBelow (endMet core start closes closes mine own from to) y)
 
 abbrev μ-loop : tie.MeasureT-loop
-μ-loop core start end words count mine own from to until₀ y₀ until y = count - y
+μ-loop core start closes low count mine own from to until₀ y₀ until y = count - y
 
 returns : tie.Need-returns Inv-loop μ-loop
 returns c = idle-until _ _ _ _ _ _ _ _ _ (c .if1 .taken)
 
 loop-holds : tie.Need-loop-holds Inv-loop μ-loop
-unfolding joinBelow
-loop-holds c = search needs
+loop-holds c = let s = c .before .before .before .before in (s .pre .1, met-none (s .args .core .now) (s .args .start .now) (s .args .closes .now) (s .args .closes .now) _ (s .args .mine) (s .args .own) (s .args .from) (s .args .to) (s .pre .2))
 
 end-met-requires : tie.Need-end-met-requires Inv-loop μ-loop
-end-met-requires c κs = sized-less _ _ _ _ _ _ (omega arith) (c .before .before .before .before .before .before .before .pre)
+end-met-requires c κs = sized-less _ _ _ _ _ _ (omega arith) (c .before .before .before .before .before .before .pre .0)
 
 later-requires : tie.Need-later-requires Inv-loop μ-loop
 later-requires c κs = search needs

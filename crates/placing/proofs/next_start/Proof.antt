@@ -1,6 +1,7 @@
 -- `placing::next_start` meets its contract. Past the greatest end that the read meets, and the write.
 use Rattle.placing.specs.Starts.{nextBy}
 use mathlib.Core.Path.{_∙_}
+use native.Mathlib.Omega.{arith}
 use borrow.Author.Needs.{needs}
 use Rattle.placing.proofs.next_start.Statement.{statement}
 use Rattle.placing.proofs.next_start.Tie as tie
@@ -18,7 +19,7 @@ met-until-requires : tie.Need-met-until-requires
 met-until-requires c κs = search needs
 
 met-until-requires-2 : tie.Need-met-until-requires-2
-met-until-requires-2 c κs = search needs
+met-until-requires-2 c κs = let s = c .before .before .before .before in (s .pre .0, s .pre .1, λ y l. omega (arith, s .pre .3 y l))
 
 add-back : tie.Need-add-back
 add-back c = search needs

@@ -1,5 +1,6 @@
 -- `placing::start_at` meets its contract. By the mode.
 use Rattle.placing.proofs.Places.{starts-overlapping, starts-alone, ready-alone}
+use native.Mathlib.Omega.{arith}
 use borrow.Author.Needs.{needs}
 use Rattle.placing.proofs.start_at.Statement.{statement}
 use Rattle.placing.proofs.start_at.Tie as tie
@@ -14,10 +15,15 @@ shared-slice-read-if1 : tie.Need-shared-slice-read-if1
 shared-slice-read-if1 c = search needs
 
 returns : tie.Need-returns
-returns c = starts-overlapping _ _ _ _ _ _ _ _ _ _ (c .before .before .earliest-start .ensures) (c .if1 .taken)
+returns c =
+    let s = c .before .before .before .before .before .before .before .before .before .before .before .before .before .before .before .before in
+    starts-overlapping _ _ _ _ _ _ _ _ _ _ _ (s .pre .0) _ (c .before .before .earliest-start .ensures) (c .if1 .taken)
 
 mul-x : tie.Need-mul-x
 mul-x c = search needs
+
+back-to-requires : tie.Need-back-to-requires
+back-to-requires c κs = let s = c .before .before .before .before .before .before .before .before .before .before .before .before .before .before .before .before in omega (arith, s .pre .0 .few, s .pre .2 .tops-all)
 
 mul-exclusive-start : tie.Need-mul-exclusive-start
 mul-exclusive-start c = search needs
@@ -62,10 +68,14 @@ shared-slice-read-exclusive-start-6 : tie.Need-shared-slice-read-exclusive-start
 shared-slice-read-exclusive-start-6 c = search needs
 
 exclusive-start-requires : tie.Need-exclusive-start-requires
-exclusive-start-requires c κs = ready-alone _ _ _ _ _ _ _ _ _ _ (c .before .before .before .before .before .before .before .before .earliest-start .ensures) (c .before .before .before .before .before .before .before .before .before .before .before .before .before .before .before .before .before .pre)
+exclusive-start-requires c κs =
+    let s = c .before .before .before .before .before .before .before .before .before .before .before .before .before .before .before .before .before .before .before .before .before .before .before in
+    ready-alone _ _ _ _ _ _ _ _ _ _ _ (s .pre .0) _ (c .before .before .before .before .before .before .before .before .before .earliest-start .ensures) _ _ (s .pre .2) _ (c .before .before .before .before .before .before .back-to .ensures)
 
 returns-2 : tie.Need-returns-2
-returns-2 c = starts-alone _ _ _ _ _ _ _ _ _ _ (c .before .before .before .before .before .before .before .before .before .earliest-start .ensures) _ (c .before .before .before .before .before .before .before .if1 .left) (c .exclusive-start .ensures)
+returns-2 c =
+    let s = c .before .before .before .before .before .before .before .before .before .before .before .before .before .before .before .before .before .before .before .before .before .before .before .before in
+    starts-alone _ _ _ _ _ _ _ _ _ _ _ (s .pre .0) _ (c .before .before .before .before .before .before .before .before .before .before .earliest-start .ensures) _ _ (s .pre .2) _ (c .before .before .before .before .before .before .before .before .if1 .left) (c .exclusive-start .ensures)
 
 pub start-at-spec : {M : Type 1} → statement M
 start-at-spec =
@@ -76,6 +86,7 @@ start-at-spec =
     shared-slice-read-if1
     returns
     mul-x
+    back-to-requires
     mul-exclusive-start
     shared-slice-read-exclusive-start
     mul-exclusive-start-2
