@@ -1,4 +1,4 @@
 pub mod Ways
 pub mod Fields
-pub mod Marks
+pub mod Waiting
 pub mod Whole

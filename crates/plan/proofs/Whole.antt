@@ -2,14 +2,14 @@
 use mathlib.Core.Path.{_≡_, refl, sym, ap, subst, _∙_}
 use mathlib.Core.Bool.{false}
 use mathlib.Core.List.{List, _++_}
-use Prim.Native.Nat.{ℕ, _≤_, _<_}
+use Prim.Native.Nat.{ℕ, _+_, _≤_, _<_}
 use native.Mathlib.Omega.{arith}
 use lib.ListN.{length, drop, take, replicate, length-replicate, List·getD-append}
 use lib.Seq.{take-append-seam}
 use Rattle.model.specs.Below.{at}
 use Rattle.model.specs.Refusals.{refusal, refuseIf, orElse, gives, refuses}
 use Rattle.model.specs.Field.{planStep}
-use Rattle.model.specs.Plan.{Plan, Reading, tasks, edges, source, readingOf}
+use Rattle.model.specs.Plan.{Plan, Reading, tasks, edges, source, target, readingOf}
 use Rattle.model.specs.Plan.{tasks as tasksOf}
 use Rattle.model.specs.Plan.{edges as edgesOf}
 use Rattle.model.specs.Graph.{listOrder, leftOver, planOf}
@@ -22,14 +22,14 @@ use Rattle.model.specs.declared.Check.the-variants.{Good, Bad}
 use Rattle.model.proofs.Refusals.{or-good, not-refused}
 use Rattle.model.proofs.Graph.{order-length}
 use Rattle.model.proofs.Plan.{Read, plan-valid}
-use Rattle.plan.specs.Order.{graphOf}
+use Rattle.plan.specs.Order.{graphOf, Edges}
 use Rattle.plan.specs.Planned.{parsedBy, filled, orderBy, columnsOf, planCheck, planRead, Sized}
 use Rattle.plan.specs.declared.Parsed.{Parsed}
 use Rattle.plan.specs.declared.Shape.{Shape}
 use Rattle.plan.specs.declared.Columns.{Columns}
 use Rattle.plan.specs.declared.PlanRead.{PlanRead}
 use Rattle.plan.proofs.Fields.{filled-front, filled-length}
-use Rattle.plan.proofs.Marks.{order-graph, left-graph}
+use Rattle.plan.proofs.Waiting.{order-graph, left-graph}
 
 -- the entries at a column's front
 pub filled-at : (front l : List ℕ) (i : ℕ) → length front ≤ length l → i < length front → at (filled front l) i ≡ at front i
@@ -116,23 +116,46 @@ module _ (bytes : List ℕ) (parsed : Parsed) (costs sources targets amounts : L
     facts : Read bytes p
     facts = plan-valid bytes good
 
-    pub few-tasks : parsed .shape .tasks ≤ 64
-    few-tasks = omega (arith, ap (λ (s : Shape). s .tasks) shaped, facts .valid .ranges .few-tasks)
+    -- what the list order needs of the edges
+    tasks-is : parsed .shape .tasks ≡ tasks p
+    tasks-is = ap (λ (s : Shape). s .tasks) shaped
 
-    pub few-edges : parsed .shape .edges ≤ 256
-    few-edges = omega (arith, ap (λ (s : Shape). s .edges) shaped, facts .valid .ranges .few-edges)
+    edges-is : parsed .shape .edges ≡ edges p
+    edges-is = ap (λ (s : Shape). s .edges) shaped
 
-    pub sources-long : parsed .shape .edges ≤ length sources
-    sources-long = omega (arith, few-edges, ap length es, filled-length (p .sources) (replicate 256 0), zeros 256)
-
-    pub sources-low : (j : ℕ) → j < parsed .shape .edges → at sources j < parsed .shape .tasks
-    sources-low j h =
-        let n = ap (λ (s : Shape). s .tasks) shaped in
-        let m = ap (λ (s : Shape). s .edges) shaped in
-        let a : at sources j ≡ source p j =
+    source-is : (j : ℕ) → j < edges p → at sources j ≡ source p j
+    source-is j h =
         ap (λ (l : List ℕ). at l j) es
-        ∙ filled-at (p .sources) (replicate 256 0) j (omega (arith, facts .valid .ranges .few-edges, zeros 256)) (omega (arith, m)) in
-        omega (arith, a, n, m, facts .valid .ranges .sources-known j (omega (arith, m)))
+        ∙ filled-at (p .sources) (replicate 256 0) j (omega (arith, facts .valid .ranges .few-edges, zeros 256)) h
+
+    target-is : (j : ℕ) → j < edges p → at targets j ≡ target p j
+    target-is j h =
+        let all = facts .valid .ranges .targets-all in
+        ap (λ (l : List ℕ). at l j) et
+        ∙ filled-at (p .targets) (replicate 256 0) j (omega (arith, all, facts .valid .ranges .few-edges, zeros 256)) (omega (arith, all))
+
+    pub edges-good : Edges (parsed .shape .tasks) (parsed .shape .edges) sources targets
+    edges-good =
+        let v = facts .valid .ranges in
+        let n = tasks-is in
+        let m = edges-is in
+        record {
+          few-tasks = omega (arith, v .few-tasks);
+          few-edges = omega (arith, v .few-edges);
+          long = omega (arith, v .few-edges, ap length es, filled-length (p .sources) (replicate 256 0), zeros 256);
+          sources-low = λ e h. omega (arith, source-is e (omega arith), v .sources-known e (omega arith));
+          targets-low = λ e h. omega (arith, target-is e (omega arith), v .targets-known e (omega arith));
+          rising =
+              λ e h.
+              omega (
+                arith,
+                source-is e (omega arith),
+                target-is e (omega arith),
+                source-is (e + 1) (omega arith),
+                target-is (e + 1) (omega arith),
+                v .rising e (omega arith),
+              );
+        }
 
     sources-take : p .sources ≡ take (edges p) sources
     sources-take = rw es (sym (filled-take (p .sources) (replicate 256 0) (edges p) refl (omega (arith, facts .valid .ranges .few-edges, zeros 256))))
@@ -164,10 +187,8 @@ module _ (bytes : List ℕ) (parsed : Parsed) (costs sources targets amounts : L
         }) ≡ planRead bytes
     unfolding planCheck
     fields-good check order ck od =
-        let n : parsed .shape .tasks ≡ tasks p = ap (λ (s : Shape). s .tasks) shaped in
-        let m : parsed .shape .edges ≡ edges p = ap (λ (s : Shape). s .edges) shaped in
         let g : graphOf (parsed .shape .tasks) (parsed .shape .edges) sources targets ≡ graphOf (tasks p) (edges p) sources targets =
-        λ i. graphOf (n i) (m i) sources targets in
+        λ i. graphOf (tasks-is i) (edges-is i) sources targets in
         whole check order
         (rw good (ck ∙ ap (λ (x : Plan). refuseIf (leftOver x) (refusal Cyclic OfPlan (length bytes))) g ∙ rw (left-graph p sources targets sources-take targets-take)))
         (rw good (od ∙ ap (λ (x : Plan). filled (listOrder x) (replicate 64 0)) g ∙ rw (order-graph p sources targets sources-take targets-take)))

@@ -2,14 +2,14 @@
 ghost use mathlib.Core.Path.{_≡_};
 ghost use Prim.Native.Nat.{ℕ, _+_, _<_, _≤_};
 ghost use lib.ListN.{length};
-ghost use Rattle.model.specs.Below.{at, allBelow};
+ghost use Rattle.model.specs.Below.{at};
 ghost use Rattle.model.specs.Field.{two, planBody, tableBody, bodyOf, stepIn, planStep, placeAfter};
 ghost use mathlib.Core.Bool.{not, _||_};
 ghost use lib.Dec.{ltb, leb};
 ghost use Rattle.model.specs.Plan.{keyOf, settingsGood, inOrder, headerIn, taskIn, edgeIn, tagged, fieldBy, fieldOf, readingOf};
 ghost use Rattle.model.specs.Refusals.{refusal, refuseIf};
 ghost use Rattle.model.specs.Graph.{leftOver, listOrder};
-ghost use Rattle.plan.specs.Order.{graphOf, passesBy, readyBy, nextBy};
+ghost use Rattle.plan.specs.Order.{graphOf, Edges, Rising, Parts, Raised, edgesTo, edgesBetween, nextBy};
 ghost use Rattle.plan.specs.Planned.{filled, parsedBy, planRead, afterHeader, afterTask, afterEdge};
 use model::Bus;
 use model::Check;
@@ -485,70 +485,27 @@ fn index(x: u8) -> usize
     x as usize
 }
 
-// Edge e does not keep a task waiting: it ends elsewhere, or its source is taken.
-fn passes(sources: &[u8; 256], targets: &[u8; 256], marks: &[u8; 64], task: usize, e: usize) -> bool
-    requires { ⌜ (e < 256) × (at (now sources) e < 64) ⌝ }
-    ensures { λ r. ⌜ r ≡ passesBy (now (sources .entry)) (now (targets .entry)) (now (marks .entry)) task e ⌝ }
-{
-    if index(targets[e]) == task {
-        let s = index(sources[e]);
-        return 0 < marks[s];
-    }
-    true
-}
-
-fn sources_taken(
-    edges: usize,
-    sources: &[u8; 256],
-    targets: &[u8; 256],
-    marks: &[u8; 64],
-    task: usize,
-) -> bool
-    requires { ⌜ (edges ≤ 256) × ((e : ℕ) → e < edges → at (now sources) e < 64) ⌝ }
-    ensures { λ r. ⌜ r ≡ allBelow (passesBy (now (sources .entry)) (now (targets .entry)) (now (marks .entry)) task) edges ⌝ }
+// One more for a task, for each edge that ends there.
+fn count_edges(edges: usize, targets: &[u8; 256], left: &mut [u8; 64])
+    requires { ⌜ (edges ≤ 256) × (length (now left) ≡ 64) × ((e : ℕ) → e < edges → at (now targets) e < 64) × ((j : ℕ) → at (now left) j + edgesTo edges (now targets) j < 256) ⌝ }
+    ensures { λ _. ⌜ Raised (edgesTo edges (now (targets .entry))) (now (left .entry)) (now (left .exit)) ⌝ }
 {
     let mut e: usize = 0;
     while e < edges {
-        if passes(sources, targets, marks, task, e) {
-            e += 1;
-        } else {
-            return false;
-        }
+        let t = index(targets[e]);
+        left[t] += 1;
+        e += 1;
     }
-    true
 }
 
-// A task that is not taken and whose sources are all taken.
-fn is_ready(
-    edges: usize,
-    sources: &[u8; 256],
-    targets: &[u8; 256],
-    marks: &[u8; 64],
-    task: usize,
-) -> bool
-    requires { ⌜ (task < 64) × (edges ≤ 256) × ((e : ℕ) → e < edges → at (now sources) e < 64) ⌝ }
-    ensures { λ r. ⌜ r ≡ readyBy edges (now (sources .entry)) (now (targets .entry)) (now (marks .entry)) task ⌝ }
-{
-    if 0 < marks[task] {
-        return false;
-    }
-    sources_taken(edges, sources, targets, marks, task)
-}
-
-// The lowest-numbered task that is ready, or the number of tasks.
-fn next_ready(
-    tasks: usize,
-    edges: usize,
-    sources: &[u8; 256],
-    targets: &[u8; 256],
-    marks: &[u8; 64],
-) -> usize
-    requires { ⌜ (tasks ≤ 64) × (edges ≤ 256) × ((e : ℕ) → e < edges → at (now sources) e < 64) ⌝ }
-    ensures { λ r. ⌜ r ≡ nextBy tasks edges (now (sources .entry)) (now (targets .entry)) (now (marks .entry)) ⌝ }
+// The lowest task that is not taken and that no edge keeps waiting; the number of tasks where there is none.
+fn next_ready(tasks: usize, left: &[u8; 64]) -> usize
+    requires { ⌜ tasks ≤ 64 ⌝ }
+    ensures { λ r. ⌜ r ≡ nextBy tasks (now (left .entry)) ⌝ }
 {
     let mut i: usize = 0;
     while i < tasks {
-        if is_ready(edges, sources, targets, marks, i) {
+        if left[i] == 1 {
             return i;
         }
         i += 1;
@@ -556,8 +513,43 @@ fn next_ready(
     tasks
 }
 
+// The first edge from task i or from a task above it, by halving: edges rise by source.
+fn first_edge(edges: usize, sources: &[u8; 256], i: usize) -> usize
+    requires { ⌜ Rising edges (now sources) ⌝ }
+    ensures { λ r. ⌜ Parts edges (now (sources .entry)) i r r ⌝ }
+{
+    let mut low: usize = 0;
+    let mut high: usize = edges;
+    while low < high {
+        let middle = (low + high) / 2;
+        if index(sources[middle]) < i {
+            low = middle + 1;
+        } else {
+            high = middle;
+        }
+    }
+    low
+}
+
+// One less for a task, for each edge to it from task i; these edges follow one another.
+fn release(edges: usize, sources: &[u8; 256], targets: &[u8; 256], i: usize, left: &mut [u8; 64])
+    requires { ⌜ Rising edges (now sources) × (length (now left) ≡ 64) × ((e : ℕ) → e < edges → at (now targets) e < 64) × ((j : ℕ) → edgesBetween edges (now sources) (now targets) i j ≤ at (now left) j) ⌝ }
+    ensures { λ _. ⌜ Raised (edgesBetween edges (now (sources .entry)) (now (targets .entry)) i) (now (left .exit)) (now (left .entry)) ⌝ }
+{
+    let mut e = first_edge(edges, sources, i);
+    while e < edges {
+        if i < index(sources[e]) {
+            return;
+        }
+        let t = index(targets[e]);
+        left[t] -= 1;
+        e += 1;
+    }
+}
+
 // The list order of a graph, into a lent list, and how many tasks it has: all of them exactly where no task reaches itself.
-// Two bytes are kept for each task: its mark and its entry in the list.
+// Two bytes are kept for each task: its entry in the list, and `left`: 0 once it is taken, else one more than the edges that
+// keep it waiting.
 fn list_order(
     tasks: usize,
     edges: usize,
@@ -565,18 +557,20 @@ fn list_order(
     targets: &[u8; 256],
     order: &mut [u8; 64],
 ) -> usize
-    requires { ⌜ (tasks ≤ 64) × (edges ≤ 256) × (edges ≤ length (now sources)) × ((e : ℕ) → e < edges → at (now sources) e < tasks) ⌝ }
+    requires { ⌜ Edges tasks edges (now sources) (now targets) ⌝ }
     ensures { λ r. ⌜ (r ≡ length (listOrder (graphOf tasks edges (now (sources .entry)) (now (targets .entry))))) × (now (order .exit) ≡ filled (listOrder (graphOf tasks edges (now (sources .entry)) (now (targets .entry)))) (now (order .entry))) ⌝ }
 {
-    let mut marks = [0u8; 64];
+    let mut left = [1u8; 64];
+    count_edges(edges, targets, &mut left);
     let mut taken: usize = 0;
     while taken < tasks {
-        let i = next_ready(tasks, edges, sources, targets, &marks);
+        let i = next_ready(tasks, &left);
         if tasks <= i {
             return taken;
         }
         order[taken] = i as u8;
-        marks[i] = 1;
+        release(edges, sources, targets, i, &mut left);
+        left[i] = 0;
         taken += 1;
     }
     taken
@@ -609,7 +603,7 @@ fn order_check(
     targets: &[u8; 256],
     order: &mut [u8; 64],
 ) -> Check
-    requires { ⌜ (shape .tasks ≤ 64) × (shape .edges ≤ 256) × (shape .edges ≤ length (now sources)) × ((e : ℕ) → e < shape .edges → at (now sources) e < shape .tasks) ⌝ }
+    requires { ⌜ Edges (shape .tasks) (shape .edges) (now sources) (now targets) ⌝ }
     ensures { λ r. ⌜ (r ≡ refuseIf (leftOver (graphOf (shape .tasks) (shape .edges) (now (sources .entry)) (now (targets .entry)))) (refusal Fault.Cyclic Side.OfPlan place)) × (now (order .exit) ≡ filled (listOrder (graphOf (shape .tasks) (shape .edges) (now (sources .entry)) (now (targets .entry)))) (now (order .entry))) ⌝ }
 {
     let taken = list_order(shape.tasks, shape.edges, sources, targets, order);

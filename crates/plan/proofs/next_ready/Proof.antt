@@ -1,31 +1,33 @@
 -- `plan::next_ready` meets its contract. No task before this one is ready.
-use Rattle.plan.specs.Order.{readyBy, nextBy}
+use Rattle.plan.specs.Order.{nextBy}
+use Rattle.model.specs.Below.{at}
 use Rattle.model.proofs.Below.{first-here, first-none}
-use lib.ListN.{length}
 use Prim.Native.Nat.{ℕ, _≤_, _<_, _-_}
-use mathlib.Core.Bool.{true, false}
-use mathlib.Core.Path.{_≡_, sym, _∙_}
+use mathlib.Core.Bool.{false}
+use mathlib.Core.Path.{_≡_}
+use lib.Dec.{eqb}
 use native.Mathlib.Omega.{arith}
+use borrow.Author.Tests.{eq-eqb, ne-eqb}
 use borrow.Author.Count.{below-more}
 use borrow.Author.Needs.{needs}
 use Rattle.plan.proofs.next_ready.Statement.{statement}
 use Rattle.plan.proofs.next_ready.Tie as tie
 
 abbrev Inv-loop : tie.InvT-loop
-Inv-loop tasks edges sources targets marks i₀ i = (i ≤ tasks) × ((k : ℕ) → k < i → readyBy edges sources targets marks k ≡ false)
+Inv-loop tasks left i₀ i = (i ≤ tasks) × ((k : ℕ) → k < i → eqb (at left k) 1 ≡ false)
 
 abbrev μ-loop : tie.MeasureT-loop
-μ-loop tasks edges sources targets marks i₀ i = tasks - i
+μ-loop tasks left i₀ i = tasks - i
 
 loop-holds : tie.Need-loop-holds Inv-loop μ-loop
 loop-holds c = (search needs, λ k l. absurd (omega arith))
 
-is-ready-requires : tie.Need-is-ready-requires Inv-loop μ-loop
-is-ready-requires c κs = let s = c .before .before in (omega arith, s .pre .1, s .pre .2)
+element-copy-out-if1 : tie.Need-element-copy-out-if1 Inv-loop μ-loop
+element-copy-out-if1 c = search needs
 
 returns : tie.Need-returns Inv-loop μ-loop
 unfolding nextBy
-returns c = first-here _ _ _ (c .before .before .loop-test .taken) (c .before .before .before .loop .inv .1) (sym (c .before .is-ready .ensures) ∙ c .if1 .taken)
+returns c = first-here _ _ _ (c .before .before .loop-test .taken) (c .before .before .before .loop .inv .1) (eq-eqb _ 1 (c .if1 .taken))
 
 add-i : tie.Need-add-i Inv-loop μ-loop
 add-i c = search needs
@@ -34,7 +36,7 @@ loop-less : tie.Need-loop-less Inv-loop μ-loop
 loop-less c = search needs
 
 loop-again : tie.Need-loop-again Inv-loop μ-loop
-loop-again c = (search needs, below-more _ _ (c .before .before .before .loop .inv .1) (sym (c .before .is-ready .ensures) ∙ c .if1 .left))
+loop-again c = (search needs, below-more _ _ (c .before .before .before .loop .inv .1) (ne-eqb _ 1 (c .if1 .left)))
 
 returns-2 : tie.Need-returns-2 Inv-loop μ-loop
 unfolding nextBy
@@ -47,7 +49,7 @@ next-ready-spec =
     Inv-loop
     μ-loop
     loop-holds
-    is-ready-requires
+    element-copy-out-if1
     returns
     add-i
     loop-less

@@ -1,5 +1,5 @@
 -- `plan::read_plan` meets its contract. The fields, then the list order (proofs/Whole.antt).
-use Rattle.plan.proofs.Whole.{fields-bad, few-tasks, few-edges, sources-long, sources-low, fields-good}
+use Rattle.plan.proofs.Whole.{fields-bad, edges-good, fields-good}
 use native.Mathlib.Omega.{arith}
 use borrow.Author.Needs.{needs}
 use Rattle.plan.proofs.read_plan.Statement.{statement}
@@ -20,16 +20,9 @@ enum-told : tie.Need-enum-told
 enum-told c = search needs
 
 order-check-requires : tie.Need-order-check-requires
-order-check-requires c κs = (
-  let d = c .before .before .before .before .before .before .before in
-      few-tasks (d .before .before .before .before .before .before .args .plan .now) _ _ _ _ _ (d .parse .ensures .0) (d .parse .ensures .1 .0) (d .parse .ensures .1 .1) (d .parse .ensures .1 .2) (d .parse .ensures .1 .3) (c .before .before .before .enum-told .given .1),
-  let d = c .before .before .before .before .before .before .before in
-      few-edges (d .before .before .before .before .before .before .args .plan .now) _ _ _ _ _ (d .parse .ensures .0) (d .parse .ensures .1 .0) (d .parse .ensures .1 .1) (d .parse .ensures .1 .2) (d .parse .ensures .1 .3) (c .before .before .before .enum-told .given .1),
-  let d = c .before .before .before .before .before .before .before in
-      sources-long (d .before .before .before .before .before .before .args .plan .now) _ _ _ _ _ (d .parse .ensures .0) (d .parse .ensures .1 .0) (d .parse .ensures .1 .1) (d .parse .ensures .1 .2) (d .parse .ensures .1 .3) (c .before .before .before .enum-told .given .1),
-  let d = c .before .before .before .before .before .before .before in
-      sources-low (d .before .before .before .before .before .before .args .plan .now) _ _ _ _ _ (d .parse .ensures .0) (d .parse .ensures .1 .0) (d .parse .ensures .1 .1) (d .parse .ensures .1 .2) (d .parse .ensures .1 .3) (c .before .before .before .enum-told .given .1),
-)
+order-check-requires c κs =
+    let d = c .before .before .before .before .before .before .before in
+    edges-good (d .before .before .before .before .before .before .args .plan .now) _ _ _ _ _ (d .parse .ensures .0) (d .parse .ensures .1 .0) (d .parse .ensures .1 .1) (d .parse .ensures .1 .2) (d .parse .ensures .1 .3) (c .before .before .before .enum-told .given .1)
 
 returns-2 : tie.Need-returns-2
 returns-2 c =
