@@ -1,25 +1,25 @@
 -- What `list_order` keeps of the tasks, and the list order that it makes by it. Assumes nothing.
-use mathlib.Core.Path.{_≡_, refl, sym, ap, subst, _∙_}
+use mathlib.Core.Path.{_≡_, refl, sym, ap, _∙_}
 use mathlib.Core.Bool.{Bool, true, false, cond, not, _&&_}
 use mathlib.Core.List.{List, [], _∷_, _++_}
-use Prim.Native.Nat.{ℕ, zero, suc, _+_, _-_, _≤_, _<_}
+use Prim.Native.Nat.{ℕ, zero, suc, _+_, _-_, _≤_, _<_, min}
 use native.Mathlib.Nat.{zero-add}
 use native.Mathlib.Numerals.{add-one}
 use native.Mathlib.Omega.{arith}
 use lib.Dec.{ltb, eqb}
 use lib.ListN.{length, set, take, replicate, length-replicate, length-set}
 use lib.Seq.{getD-set-same, getD-set-other, getD-take, length-take-le}
-use borrow.Author.Tests.{eq-eqb, ne-eqb, lt-ltb, le-ltb, ltb-true, ltb-false, eqb-true, not-true, not-false}
+use borrow.Author.Tests.{eq-eqb, ne-eqb, lt-ltb, le-ltb, eqb-true, not-true, not-false}
 use Rattle.model.specs.Below.{joinBelow, at, bit, countBelow, allBelow, firstBelow}
 use Rattle.model.specs.Plan.{Plan, tasks, edges, source, target, keyOf}
 use Rattle.model.specs.Graph.{placeOf, taken, ready, Listing, nextTask, takeNext, listed, listOrder, leftOver}
 use Rattle.model.proofs.Tests.{either, conflict, lt-or-ge, same-or-not, below-suc, and-both, and-no}
 use Rattle.model.proofs.Graph.{taken-place, taken-new, taken-old, ready-untaken, next-ready, listing}
-use Rattle.model.proofs.Below.{join-cong, join-step, sum-same, sum-add, sum-zero, sum-ge, sum-longer, first-same, all-each, all-not}
+use Rattle.model.proofs.Below.{join-step, sum-same, sum-add, sum-zero, sum-ge, sum-longer, first, first-same, all-each, all-not}
 use Rattle.model.proofs.Plan.{snoc-length}
 use Rattle.plan.specs.Planned.{filled}
 use Rattle.plan.proofs.Fields.{filled-none, filled-more}
-use Rattle.plan.specs.Order.{graphOf, Edges, Rising, Parts, Raised, edgesTo, edgesBetween, openTo, leftBy, nextBy}
+use Rattle.plan.specs.Order.{graphOf, Edges, Rising, Parts, Passed, Raised, Released, edgesTo, edgesBetween, openTo, leftBy, nextBy}
 
 -- ---- counts
 none-taken : (i : ℕ) → taken [] i ≡ false
@@ -125,30 +125,63 @@ module _ (sources targets : List ℕ) (i : ℕ) where
   between-more e t q p j = rw (join-step, q, eq-eqb (at sources e) i p)
 
   -- none before the first edge from i
-  pub between-none : (m e : ℕ) → Parts m sources i e e → (l : List ℕ) → Raised (edgesBetween e sources targets i) l l
+  before-none : (m e : ℕ) → Parts m sources i e e → (j : ℕ) → edgesBetween e sources targets i j ≡ 0
   unfolding edgesBetween
-  between-none m e w l =
-      raised-none _ l (λ j. sum-zero _ e (λ k h. ap bit (ap (λ (b : Bool). b && eqb (at targets k) j) (ne-eqb (at sources k) i (λ q. omega (arith, w .below k h))))))
+  before-none m e w j =
+      sum-zero _ e (λ k h. ap bit (ap (λ (b : Bool). b && eqb (at targets k) j) (ne-eqb (at sources k) i (λ q. omega (arith, w .below k h)))))
 
-  module _ (m e : ℕ) (l₀ l : List ℕ) (low : e ≤ m) (r : Raised (edgesBetween e sources targets i) l l₀) where
+  pub released-none : (m e : ℕ) → Parts m sources i e e → (l : List ℕ) → Released e sources targets i l l i
+  released-none m e w l =
+      record { lowered = raised-none _ l (before-none m e w); least = omega arith; clear = λ k h. before-none m e w k }
+
+  module _ (m e : ℕ) (l₀ l : List ℕ) (low : ℕ) (within : e ≤ m) (r : Released e sources targets i l₀ l low) where
     module _ (t : ℕ) (p : at sources e ≡ i) (q : t ≡ at targets e) (h : e < m) where
       between-longer : (j : ℕ) → edgesBetween (e + 1) sources targets i j ≤ edgesBetween m sources targets i j
       unfolding edgesBetween
       between-longer j = sum-longer (λ k. bit (eqb (at sources k) i && eqb (at targets k) j)) (e + 1) m (omega arith)
 
-      pub between-some : ((j : ℕ) → edgesBetween m sources targets i j ≤ at l₀ j) → 1 ≤ at l t
-      between-some room = omega (arith, r .each t, room t, between-more e t q p t, ap bit (eq-eqb t t refl), between-longer t)
+      pub released-some : ((j : ℕ) → edgesBetween m sources targets i j ≤ at l₀ j) → 1 ≤ at l t
+      released-some room = omega (arith, r .lowered .each t, room t, between-more e t q p t, ap bit (eq-eqb t t refl), between-longer t)
 
-      pub between-next : t < length l → 1 ≤ at l t → Raised (edgesBetween (e + 1) sources targets i) (set l t (at l t - 1)) l₀
-      between-next = raised-down _ _ l l₀ r t (between-more e t q p)
+      pub released-next : t < length l → 1 ≤ at l t → (low' : ℕ) → low' ≡ min low t
+          → Released (e + 1) sources targets i l₀ (set l t (at l t - 1)) low'
+      released-next k s low' x =
+          record {
+            lowered = raised-down _ _ l l₀ (r .lowered) t (between-more e t q p) k s;
+            least = omega (arith, r .least);
+            clear = λ j b. omega (arith, between-more e t q p j, r .clear j (omega arith), ap bit (ne-eqb t j (λ y. omega arith)));
+          }
 
     -- none from e on
-    pub between-end : ((k : ℕ) → e ≤ k → k < m → i < at sources k) → Raised (edgesBetween m sources targets i) l l₀
+    rest-none : ((k : ℕ) → e ≤ k → k < m → i < at sources k) → (j : ℕ) → edgesBetween m sources targets i j ≡ edgesBetween e sources targets i j
     unfolding edgesBetween
-    between-end h =
-        raised-same _ _ l l₀
-        (λ j. count-rest _ e m low (λ k a b. ap (λ (x : Bool). x && eqb (at targets k) j) (ne-eqb (at sources k) i (λ q. omega (arith, h k a b)))))
-        r
+    rest-none h j =
+        count-rest _ e m within (λ k a b. ap (λ (x : Bool). x && eqb (at targets k) j) (ne-eqb (at sources k) i (λ q. omega (arith, h k a b))))
+
+    pub released-end : ((k : ℕ) → e ≤ k → k < m → i < at sources k) → Released m sources targets i l₀ l low
+    released-end h =
+        record {
+          lowered = raised-same _ _ l l₀ (rest-none h) (r .lowered);
+          least = r .least;
+          clear = λ k b. rest-none h k ∙ r .clear k b;
+        }
+
+-- ---- the next task that is ready lies above those that were passed
+pub passed-none : (n : ℕ) (left : List ℕ) → Passed n left 0
+passed-none n left = record { within = omega arith; none = λ k h. absurd (omega arith) }
+
+pub passed-next : (n m : ℕ) (sources targets left mid : List ℕ) (i low : ℕ) → i ≡ nextBy n left → i < n
+    → Released m sources targets i left mid low → Passed n (set mid i 0) low
+unfolding nextBy
+passed-next n m sources targets left mid i low ei h r =
+    record {
+      within = omega (arith, r .least);
+      none =
+          λ k b.
+          let same : at mid k ≡ at left k = omega (arith, r .lowered .each k, r .clear k b) in
+          ap (λ (x : ℕ). eqb x 1) (getD-set-other mid i k 0 0 (λ q. omega (arith, r .least)) ∙ same)
+          ∙ first (λ j. eqb (at left j) 1) n .before k (omega (arith, r .least, ei));
+    }
 
 -- ---- a graph stands for the plans that have its tasks and edges
 module _ (n m : ℕ) (sources targets : List ℕ) where

@@ -2,7 +2,7 @@
 -- waiting. Assumes nothing.
 use Prim.Native.Nat.{ℕ, _+_, _≤_, _<_}
 use mathlib.Core.Path.{_≡_}
-use mathlib.Core.Bool.{Bool, cond, not, _&&_}
+use mathlib.Core.Bool.{false, cond, not, _&&_}
 use mathlib.Core.List.{List, []}
 use lib.Dec.{eqb}
 use lib.ListN.{length, take, replicate}
@@ -47,6 +47,12 @@ pub record Raised (f : ℕ → ℕ) (low high : List ℕ) : Type 0 where
   pub long : length high ≡ length low
   pub each : (j : ℕ) → at high j ≡ at low j + f j
 
+-- the edges from task i no longer count: `after` is `before` without them, and they end at no task below `low`
+pub record Released (m : ℕ) (sources targets : List ℕ) (i : ℕ) (before after : List ℕ) (low : ℕ) : Type 0 where
+  pub lowered : Raised (edgesBetween m sources targets i) after before
+  pub least : low ≤ i
+  pub clear : (k : ℕ) → k < low → edgesBetween m sources targets i k ≡ 0
+
 -- how many edges to task j are from a task that is not taken, with o taken so far
 unfoldable pub openTo : ℕ → List ℕ → List ℕ → List ℕ → ℕ → ℕ
 openTo m sources targets o j = countBelow (λ e. not (taken o (at sources e)) && eqb (at targets e) j) m
@@ -58,3 +64,8 @@ leftBy m sources targets o j = cond (taken o j) 0 (1 + openTo m sources targets 
 -- the lowest of n tasks that is not taken and that no edge keeps waiting
 unfoldable pub nextBy : ℕ → List ℕ → ℕ
 nextBy n left = firstBelow (λ i. eqb (at left i) 1) n
+
+-- none of the tasks below `from` is that
+pub record Passed (n : ℕ) (left : List ℕ) (from : ℕ) : Type 0 where
+  pub within : from ≤ n
+  pub none : (k : ℕ) → k < from → eqb (at left k) 1 ≡ false

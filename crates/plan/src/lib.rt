@@ -1,6 +1,6 @@
 // The plan reader: one step over the fields, the parser over it, the list order and the cycle test.
 ghost use mathlib.Core.Path.{_≡_};
-ghost use Prim.Native.Nat.{ℕ, _+_, _<_, _≤_};
+ghost use Prim.Native.Nat.{ℕ, _+_, _<_, _≤_, min};
 ghost use lib.ListN.{length};
 ghost use Rattle.model.specs.Below.{at};
 ghost use Rattle.model.specs.Field.{two, planBody, tableBody, bodyOf, stepIn, planStep, placeAfter};
@@ -9,7 +9,7 @@ ghost use lib.Dec.{ltb, leb};
 ghost use Rattle.model.specs.Plan.{keyOf, settingsGood, inOrder, headerIn, taskIn, edgeIn, tagged, fieldBy, fieldOf, readingOf};
 ghost use Rattle.model.specs.Refusals.{refusal, refuseIf};
 ghost use Rattle.model.specs.Graph.{leftOver, listOrder};
-ghost use Rattle.plan.specs.Order.{graphOf, Edges, Rising, Parts, Raised, edgesTo, edgesBetween, nextBy};
+ghost use Rattle.plan.specs.Order.{graphOf, Edges, Rising, Parts, Passed, Raised, Released, edgesTo, edgesBetween, nextBy};
 ghost use Rattle.plan.specs.Planned.{filled, parsedBy, planRead, afterHeader, afterTask, afterEdge};
 use model::Bus;
 use model::Check;
@@ -498,12 +498,13 @@ fn count_edges(edges: usize, targets: &[u8; 256], left: &mut [u8; 64])
     }
 }
 
-// The lowest task that is not taken and that no edge keeps waiting; the number of tasks where there is none.
-fn next_ready(tasks: usize, left: &[u8; 64]) -> usize
-    requires { ⌜ tasks ≤ 64 ⌝ }
+// The lowest task that is not taken and that no edge keeps waiting; the number of tasks where there is none. None is below
+// `from`.
+fn next_ready(tasks: usize, from: usize, left: &[u8; 64]) -> usize
+    requires { ⌜ (tasks ≤ 64) × Passed tasks (now left) from ⌝ }
     ensures { λ r. ⌜ r ≡ nextBy tasks (now (left .entry)) ⌝ }
 {
-    let mut i: usize = 0;
+    let mut i = from;
     while i < tasks {
         if left[i] == 1 {
             return i;
@@ -531,25 +532,41 @@ fn first_edge(edges: usize, sources: &[u8; 256], i: usize) -> usize
     low
 }
 
-// One less for a task, for each edge to it from task i; these edges follow one another.
-fn release(edges: usize, sources: &[u8; 256], targets: &[u8; 256], i: usize, left: &mut [u8; 64])
+fn lesser(a: usize, b: usize) -> usize
+    ensures { λ r. ⌜ r ≡ min a b ⌝ }
+{
+    if a < b { a } else { b }
+}
+
+// One less for a task, for each edge to it from task i; these edges follow one another. The result is the lowest of i and
+// these tasks.
+fn release(
+    edges: usize,
+    sources: &[u8; 256],
+    targets: &[u8; 256],
+    i: usize,
+    left: &mut [u8; 64],
+) -> usize
     requires { ⌜ Rising edges (now sources) × (length (now left) ≡ 64) × ((e : ℕ) → e < edges → at (now targets) e < 64) × ((j : ℕ) → edgesBetween edges (now sources) (now targets) i j ≤ at (now left) j) ⌝ }
-    ensures { λ _. ⌜ Raised (edgesBetween edges (now (sources .entry)) (now (targets .entry)) i) (now (left .exit)) (now (left .entry)) ⌝ }
+    ensures { λ r. ⌜ Released edges (now (sources .entry)) (now (targets .entry)) i (now (left .entry)) (now (left .exit)) r ⌝ }
 {
     let mut e = first_edge(edges, sources, i);
+    let mut low = i;
     while e < edges {
         if i < index(sources[e]) {
-            return;
+            return low;
         }
         let t = index(targets[e]);
         left[t] -= 1;
+        low = lesser(low, t);
         e += 1;
     }
+    low
 }
 
 // The list order of a graph, into a lent list, and how many tasks it has: all of them exactly where no task reaches itself.
-// Two bytes are kept for each task: its entry in the list, and `left`: 0 once it is taken, else one more than the edges that
-// keep it waiting.
+// Two bytes are kept for each task: its entry in the list, and in `left` 0 once it is taken, else one more than the edges that
+// keep it waiting. No task below `from` is ready, so none is looked at there.
 fn list_order(
     tasks: usize,
     edges: usize,
@@ -562,14 +579,15 @@ fn list_order(
 {
     let mut left = [1u8; 64];
     count_edges(edges, targets, &mut left);
+    let mut from: usize = 0;
     let mut taken: usize = 0;
     while taken < tasks {
-        let i = next_ready(tasks, &left);
+        let i = next_ready(tasks, from, &left);
         if tasks <= i {
             return taken;
         }
         order[taken] = i as u8;
-        release(edges, sources, targets, i, &mut left);
+        from = release(edges, sources, targets, i, &mut left);
         left[i] = 0;
         taken += 1;
     }

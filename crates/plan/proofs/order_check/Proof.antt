@@ -1,7 +1,6 @@
 -- `plan::order_check` meets its contract. Fewer tasks than there are were listed exactly where one is left over.
 use Rattle.plan.proofs.Waiting.{left-over}
 use borrow.Author.Tests.{lt-ltb, le-ltb}
-use mathlib.Core.Path.{_≡_, sym, ap, _∙_}
 use borrow.Author.Needs.{needs}
 use Rattle.plan.proofs.order_check.Statement.{statement}
 use Rattle.plan.proofs.order_check.Tie as tie

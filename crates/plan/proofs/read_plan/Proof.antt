@@ -1,6 +1,5 @@
 -- `plan::read_plan` meets its contract. The fields, then the list order (proofs/Whole.antt).
 use Rattle.plan.proofs.Whole.{fields-bad, edges-good, fields-good}
-use native.Mathlib.Omega.{arith}
 use borrow.Author.Needs.{needs}
 use Rattle.plan.proofs.read_plan.Statement.{statement}
 use Rattle.plan.proofs.read_plan.Tie as tie

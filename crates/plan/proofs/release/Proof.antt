@@ -1,7 +1,7 @@
 -- `plan::release` meets its contract. The edges from the task that were passed are no longer counted (proofs/Waiting.antt).
-use Rattle.plan.specs.Order.{Raised, edgesBetween}
+use Rattle.plan.specs.Order.{Released}
 use Rattle.model.specs.Below.{at}
-use Rattle.plan.proofs.Waiting.{between-none, between-some, between-next, between-end}
+use Rattle.plan.proofs.Waiting.{released-none, released-some, released-next, released-end}
 use Prim.Native.Nat.{ℕ, _≤_, _<_, _-_}
 use mathlib.Core.Path.{_≡_}
 use native.Mathlib.Omega.{arith}
@@ -10,16 +10,16 @@ use Rattle.plan.proofs.release.Statement.{statement}
 use Rattle.plan.proofs.release.Tie as tie
 
 abbrev Inv-loop : tie.InvT-loop
-Inv-loop edges sources targets i left₀ e₀ left e = (e ≤ edges) × ((k : ℕ) → e ≤ k → k < edges → i ≤ at sources k) × Raised (edgesBetween e sources targets i) left left₀
+Inv-loop edges sources targets i left₀ e₀ low₀ left e low = (e ≤ edges) × ((k : ℕ) → e ≤ k → k < edges → i ≤ at sources k) × Released e sources targets i left₀ left low
 
 abbrev μ-loop : tie.MeasureT-loop
-μ-loop edges sources targets i left₀ e₀ left e = edges - e
+μ-loop edges sources targets i left₀ e₀ low₀ left e low = edges - e
 
 first-edge-requires : tie.Need-first-edge-requires Inv-loop μ-loop
 first-edge-requires c κs = c .pre .0
 
 loop-holds : tie.Need-loop-holds Inv-loop μ-loop
-loop-holds c = let w = c .first-edge .ensures in (w .within, w .above, between-none _ _ _ _ _ w _)
+loop-holds c = let w = c .first-edge .ensures in (w .within, w .above, released-none _ _ _ _ _ w _)
 
 element-copy-out-index : tie.Need-element-copy-out-index Inv-loop μ-loop
 element-copy-out-index c = omega (arith, c .before .before .before .pre .0 .few)
@@ -31,7 +31,7 @@ index-requires c κs = search needs
 returns : tie.Need-returns Inv-loop μ-loop
 returns c =
     let l = c .before .before .before .before in
-    between-end _ _ _ _ _ _ _ (l .loop .inv .0) (l .loop .inv .2)
+    released-end _ _ _ _ _ _ _ _ (l .loop .inv .0) (l .loop .inv .2)
     (λ k a b. omega (arith, l .before .before .pre .0 .up (l .loop .e) k a b, c .before .index .ensures, c .if1 .taken))
 
 element-copy-out-index-2 : tie.Need-element-copy-out-index-2 Inv-loop μ-loop
@@ -57,12 +57,15 @@ sub-left c =
     let l = h .before in
     omega (
       arith,
-      between-some _ _ _ _ _ _ _ (l .loop .inv .0) (l .loop .inv .2) _ (from-here h _ (c .before .before .before .before .index .ensures) (c .before .before .before .if1 .left))
+      released-some _ _ _ _ _ _ _ _ (l .loop .inv .0) (l .loop .inv .2) _ (from-here h _ (c .before .before .before .before .index .ensures) (c .before .before .before .if1 .left))
           (c .before .index2 .ensures) (h .loop-test .taken) (l .before .before .pre .3),
     )
 
 element-write-left : tie.Need-element-write-left Inv-loop μ-loop
 element-write-left c = to-known (c .before .before .before .before .before .before) _ (c .before .index2 .ensures)
+
+lesser-requires : tie.Need-lesser-requires Inv-loop μ-loop
+lesser-requires c κs = search needs
 
 add-e : tie.Need-add-e Inv-loop μ-loop
 add-e c = search needs
@@ -72,20 +75,21 @@ loop-less c = search needs
 
 loop-again : tie.Need-loop-again Inv-loop μ-loop
 loop-again c =
-    let h = c .before .before .before .before .before .before in
+    let h = c .before .before .before .before .before .before .before in
     let l = h .before in
-    let p = from-here h _ (c .before .before .before .before .index .ensures) (c .before .before .before .if1 .left) in
-    let q = c .before .index2 .ensures in (
+    let p = from-here h _ (c .before .before .before .before .before .index .ensures) (c .before .before .before .before .if1 .left) in
+    let q = c .before .before .index2 .ensures in (
       omega arith,
       λ k a b. l .loop .inv .1 k (omega arith) b,
-      between-next _ _ _ _ _ _ _ (l .loop .inv .0) (l .loop .inv .2) _ p q (h .loop-test .taken)
-          (omega (arith, to-known h _ q, l .loop .inv .2 .long, l .before .before .pre .1))
-          (between-some _ _ _ _ _ _ _ (l .loop .inv .0) (l .loop .inv .2) _ p q (h .loop-test .taken) (l .before .before .pre .3)),
+      released-next _ _ _ _ _ _ _ _ (l .loop .inv .0) (l .loop .inv .2) _ p q (h .loop-test .taken)
+          (omega (arith, to-known h _ q, l .loop .inv .2 .lowered .long, l .before .before .pre .1))
+          (released-some _ _ _ _ _ _ _ _ (l .loop .inv .0) (l .loop .inv .2) _ p q (h .loop-test .taken) (l .before .before .pre .3))
+          _ (c .lesser .ensures),
     )
 
 returns-2 : tie.Need-returns-2 Inv-loop μ-loop
 returns-2 c =
-    between-end _ _ _ _ _ _ _ (c .before .loop .inv .0) (c .before .loop .inv .2) (λ k a b. absurd (omega (arith, c .loop-test .left)))
+    released-end _ _ _ _ _ _ _ _ (c .before .loop .inv .0) (c .before .loop .inv .2) (λ k a b. absurd (omega (arith, c .loop-test .left)))
 
 pub release-spec : {M : Type 1} → statement M
 release-spec =
@@ -103,6 +107,7 @@ release-spec =
     element-copy-out-left
     sub-left
     element-write-left
+    lesser-requires
     add-e
     loop-less
     loop-again
