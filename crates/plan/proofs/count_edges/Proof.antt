@@ -1,6 +1,6 @@
--- `plan::count_edges` meets its contract. The edges passed are counted (proofs/Waiting.antt).
+-- `plan::count_edges` meets its contract. The edges passed are counted (proofs/Counted.antt).
 use Rattle.plan.specs.Order.{Raised, edgesTo}
-use Rattle.plan.proofs.Waiting.{to-none, to-fits, to-next}
+use Rattle.plan.proofs.Counted.{to-none, to-fits, to-next}
 use Prim.Native.Nat.{_≤_, _-_}
 use mathlib.Core.Path.{_≡_}
 use native.Mathlib.Omega.{arith}

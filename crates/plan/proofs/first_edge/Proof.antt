@@ -1,6 +1,6 @@
--- `plan::first_edge` meets its contract. The edge in the middle decides for all on one side of it (proofs/Waiting.antt).
+-- `plan::first_edge` meets its contract. The edge in the middle decides for all on one side of it (proofs/Counted.antt).
 use Rattle.plan.specs.Order.{Parts}
-use Rattle.plan.proofs.Waiting.{parts-up, parts-down}
+use Rattle.plan.proofs.Counted.{parts-up, parts-down}
 use Prim.Native.Nat.{_≤_, _-_}
 use mathlib.Core.Path.{_≡_}
 use native.Mathlib.Omega.{arith}

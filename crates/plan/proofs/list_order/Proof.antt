@@ -1,6 +1,7 @@
 -- `plan::list_order` meets its contract. What is kept of the tasks and the list so far are those of the definition
 -- (proofs/Waiting.antt).
-use Rattle.plan.proofs.Waiting.{Ordered, ordered-start, ordered-room, ordered-next, ordered-stuck, ordered-end, sources-rise, to-room, passed-none, passed-next}
+use Rattle.plan.proofs.Waiting.{Ordered, ordered-start, ordered-room, ordered-next, ordered-stuck, ordered-end, sources-rise, to-room}
+use Rattle.plan.proofs.Counted.{passed-none, passed-next}
 use Rattle.plan.specs.Order.{Passed}
 use Prim.Native.Nat.{ℕ, _-_}
 use lib.ListN.{length-replicate}

@@ -1,7 +1,7 @@
--- `plan::release` meets its contract. The edges from the task that were passed are no longer counted (proofs/Waiting.antt).
+-- `plan::release` meets its contract. The edges from the task that were passed are no longer counted (proofs/Counted.antt).
 use Rattle.plan.specs.Order.{Released}
 use Rattle.model.specs.Below.{at}
-use Rattle.plan.proofs.Waiting.{released-none, released-some, released-next, released-end}
+use Rattle.plan.proofs.Counted.{released-none, released-some, released-next, released-end}
 use Prim.Native.Nat.{ℕ, _≤_, _<_, _-_}
 use mathlib.Core.Path.{_≡_}
 use native.Mathlib.Omega.{arith}
