@@ -11,7 +11,7 @@ ghost use Rattle.model.specs.Contention.{phaseWords};
 ghost use Rattle.model.specs.Rules.{delayAt};
 ghost use Rattle.model.specs.ListRule.{coreIn, firstLengths, settled, finished, makespanOf};
 ghost use Rattle.contention.specs.Columns.{phasesBy, Sized, edgesBy, Edges, coreColumn, startColumn, endColumn};
-ghost use Rattle.placing.specs.Candidates.{candidateBy, Ready};
+ghost use Rattle.placing.specs.Candidates.{candidateBy, Ready, FewCores};
 ghost use Rattle.placing.specs.Starts.{Prepared};
 ghost use Rattle.rounds.specs.Standing.{Standing};
 use model::Bus;
@@ -122,7 +122,7 @@ fn run_rounds(
     sources: &[u8],
     targets: &[u8],
     amounts: &[u16],
-    links: &[u8],
+    links: &[u16],
     choices: &[u32],
     core: &[u32],
     words: &[u32],
@@ -130,7 +130,7 @@ fn run_rounds(
     start: &mut [u32],
     end: &mut [u32],
 )
-    requires { ⌜ Ready bus (now costs) (now sources) (now targets) (now amounts) (now links) (now choices) × Prepared (candidateBy bus (now costs) (now sources) (now targets) (now amounts) (now choices)) (now core) (now words) (now lengths) × Standing (candidateBy bus (now costs) (now sources) (now targets) (now amounts) (now choices)) (firstLengths (candidateBy bus (now costs) (now sources) (now targets) (now amounts) (now choices))) (now lengths) (now start) (now end) (now lengths) (now start) (now end) × (2 * length (now costs) ≤ length (now start)) × (2 * length (now costs) ≤ length (now end)) ⌝ }
+    requires { ⌜ Ready bus (now costs) (now sources) (now targets) (now amounts) (now links) (now choices) × Prepared (candidateBy bus (now costs) (now sources) (now targets) (now amounts) (now choices)) (now core) (now words) (now lengths) × Standing (candidateBy bus (now costs) (now sources) (now targets) (now amounts) (now choices)) (firstLengths (candidateBy bus (now costs) (now sources) (now targets) (now amounts) (now choices))) (now lengths) (now start) (now end) (now lengths) (now start) (now end) × (2 * length (now costs) ≤ length (now start)) × (2 * length (now costs) ≤ length (now end)) × FewCores (now choices) (length (now costs)) ⌝ }
     ensures { λ _. ⌜ Standing (candidateBy bus (now (costs .entry)) (now (sources .entry)) (now (targets .entry)) (now (amounts .entry)) (now (choices .entry))) (settled (candidateBy bus (now (costs .entry)) (now (sources .entry)) (now (targets .entry)) (now (amounts .entry)) (now (choices .entry)))) (now (lengths .entry)) (now (start .entry)) (now (end .entry)) (now (lengths .exit)) (now (start .exit)) (now (end .exit)) ⌝ }
 {
     let tasks = costs.len();
@@ -175,7 +175,7 @@ fn prepare(
     sources: &[u8],
     targets: &[u8],
     amounts: &[u16],
-    links: &[u8],
+    links: &[u16],
     choices: &[u32],
     cores: &mut [u32],
     core: &mut [u32],
@@ -199,7 +199,7 @@ pub fn settle(
     sources: &[u8],
     targets: &[u8],
     amounts: &[u16],
-    links: &[u8],
+    links: &[u16],
     choices: &[u32],
     cores: &mut [u32],
     core: &mut [u32],
@@ -208,7 +208,7 @@ pub fn settle(
     start: &mut [u32],
     end: &mut [u32],
 ) -> u32
-    requires { ⌜ Ready bus (now costs) (now sources) (now targets) (now amounts) (now links) (now choices) × (length (now costs) ≤ length (now cores)) × (2 * length (now costs) ≤ length (now core)) × (2 * length (now costs) ≤ length (now words)) × (2 * length (now costs) ≤ length (now lengths)) × (2 * length (now costs) ≤ length (now start)) × (2 * length (now costs) ≤ length (now end)) ⌝ }
+    requires { ⌜ Ready bus (now costs) (now sources) (now targets) (now amounts) (now links) (now choices) × (length (now costs) ≤ length (now cores)) × (2 * length (now costs) ≤ length (now core)) × (2 * length (now costs) ≤ length (now words)) × (2 * length (now costs) ≤ length (now lengths)) × (2 * length (now costs) ≤ length (now start)) × (2 * length (now costs) ≤ length (now end)) × FewCores (now choices) (length (now costs)) ⌝ }
     ensures span { λ r. ⌜ r ≡ makespanOf (candidateBy bus (now (costs .entry)) (now (sources .entry)) (now (targets .entry)) (now (amounts .entry)) (now (choices .entry))) ⌝ }
     ensures columns { λ r. ⌜ (now (cores .exit) ≡ listBelow (coreIn (now (choices .entry))) (length (now (costs .entry))) ++ drop (length (now (costs .entry))) (now (cores .entry))) × (now (core .exit) ≡ coreColumn (length (now (costs .entry))) (finished (candidateBy bus (now (costs .entry)) (now (sources .entry)) (now (targets .entry)) (now (amounts .entry)) (now (choices .entry)))) ++ drop (2 * length (now (costs .entry))) (now (core .entry))) × (now (words .exit) ≡ candidateBy bus (now (costs .entry)) (now (sources .entry)) (now (targets .entry)) (now (amounts .entry)) (now (choices .entry)) .words ++ drop (2 * length (now (costs .entry))) (now (words .entry))) × (now (lengths .exit) ≡ settled (candidateBy bus (now (costs .entry)) (now (sources .entry)) (now (targets .entry)) (now (amounts .entry)) (now (choices .entry))) ++ drop (2 * length (now (costs .entry))) (now (lengths .entry))) × (now (start .exit) ≡ startColumn (length (now (costs .entry))) (finished (candidateBy bus (now (costs .entry)) (now (sources .entry)) (now (targets .entry)) (now (amounts .entry)) (now (choices .entry)))) ++ drop (2 * length (now (costs .entry))) (now (start .entry))) × (now (end .exit) ≡ endColumn (length (now (costs .entry))) (finished (candidateBy bus (now (costs .entry)) (now (sources .entry)) (now (targets .entry)) (now (amounts .entry)) (now (choices .entry)))) ++ drop (2 * length (now (costs .entry))) (now (end .entry))) ⌝ }
 {

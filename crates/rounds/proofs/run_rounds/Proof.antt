@@ -42,7 +42,7 @@ returns : tie.Need-returns Inv-loop μ-loop
 returns c = let s = c .before .before .before .before .before .before .before .before .before .before .before .before .before .before .before .before .before .before .before .before .before in stop-early _ _ _ _ _ _ _ _ _ (s .pre .0) _ (s .pre .1) (s .args .lengths .now) (s .args .start .now) (s .args .end .now) _ _ _ _ (s .pre .1 .lengths-all) (s .pre .3) (s .pre .4) (c .before .before .before .before .before .before .before .before .loop .inv .1) _ _ (c .before .before .before .grow .ensures .0) (c .before .before .before .grow .ensures .1) (not-true _ (c .if1 .taken))
 
 place-requires : tie.Need-place-requires Inv-loop μ-loop
-place-requires c κs = let s = c .before .before .before .before .before .before .before .before .before .before .before .before .before .before .before .before .before .before .before .before .before .before .before .before in ready-to-place _ _ _ _ _ _ _ _ _ (s .pre .0) _ (s .pre .1) (s .args .lengths .now) (s .args .start .now) (s .args .end .now) _ _ _ _ (s .pre .1 .lengths-all) (s .pre .3) (s .pre .4) (c .before .before .before .before .before .before .before .before .before .before .before .loop .inv .1) _ _ (c .before .before .before .before .before .before .grow .ensures .0) (c .before .before .before .before .before .before .grow .ensures .1)
+place-requires c κs = let s = c .before .before .before .before .before .before .before .before .before .before .before .before .before .before .before .before .before .before .before .before .before .before .before .before in let q = ready-to-place _ _ _ _ _ _ _ _ _ (s .pre .0) _ (s .pre .1) (s .args .lengths .now) (s .args .start .now) (s .args .end .now) _ _ _ _ (s .pre .1 .lengths-all) (s .pre .3) (s .pre .4) (c .before .before .before .before .before .before .before .before .before .before .before .loop .inv .1) _ _ (c .before .before .before .before .before .before .grow .ensures .0) (c .before .before .before .before .before .before .grow .ensures .1) in (q .0, q .1, q .2, q .3, s .pre .5)
 
 add-n : tie.Need-add-n Inv-loop μ-loop
 add-n c = search needs

@@ -15,13 +15,13 @@ prepare-requires : tie.Need-prepare-requires
 prepare-requires c κs = search needs
 
 place-requires : tie.Need-place-requires
-place-requires c κs = let s = c .before .before .before .before .before .before .before .before .before .before .before .before .before .before .before .before .before .before .before .before .before .before .before .before .before .before .before .before .before .before in (s .pre .0, prepared-first _ _ _ _ _ _ _ (s .pre .0) _ _ (c .before .before .before .before .before .before .before .before .before .before .before .before .before .prepare .ensures .2) _ _ _ _ (c .before .before .before .before .before .before .before .before .before .before .before .before .before .prepare .ensures .1) (c .before .before .before .before .before .before .before .before .before .before .before .before .before .prepare .ensures .3), s .pre .5, s .pre .6)
+place-requires c κs = let s = c .before .before .before .before .before .before .before .before .before .before .before .before .before .before .before .before .before .before .before .before .before .before .before .before .before .before .before .before .before .before in (s .pre .0, prepared-first _ _ _ _ _ _ _ (s .pre .0) _ _ (c .before .before .before .before .before .before .before .before .before .before .before .before .before .prepare .ensures .2) _ _ _ _ (c .before .before .before .before .before .before .before .before .before .before .before .before .before .prepare .ensures .1) (c .before .before .before .before .before .before .before .before .before .before .before .before .before .prepare .ensures .3), s .pre .5, s .pre .6, s .pre .7)
 
 run-rounds-requires : tie.Need-run-rounds-requires
 run-rounds-requires c κs =
     let s = c .before .before .before .before .before .before .before .before .before .before .before .before .before .before .before .before .before .before .before .before .before .before .before .before .before .before .before .before .before .before .before .before .before .before .before .before .before .before .before .before in
     let room = first-room _ _ _ _ _ _ _ (s .pre .0) (s .args .lengths .now) (s .args .start .now) (s .args .end .now) _ _ _ (c .before .before .before .before .before .before .before .before .before .before .before .before .before .before .before .before .before .before .before .before .before .before .before .prepare .ensures .3) (c .before .before .before .before .before .before .before .before .before .place .ensures .0) (c .before .before .before .before .before .before .before .before .before .place .ensures .1) in
-    (s .pre .0, prepared-first _ _ _ _ _ _ _ (s .pre .0) _ _ (c .before .before .before .before .before .before .before .before .before .before .before .before .before .before .before .before .before .before .before .before .before .before .before .prepare .ensures .2) _ _ _ _ (c .before .before .before .before .before .before .before .before .before .before .before .before .before .before .before .before .before .before .before .before .before .before .before .prepare .ensures .1) (c .before .before .before .before .before .before .before .before .before .before .before .before .before .before .before .before .before .before .before .before .before .before .before .prepare .ensures .3), standing-first _ _ _ _ _ _ _ (s .pre .0) (s .args .lengths .now) (s .args .start .now) (s .args .end .now) _ _ _ (c .before .before .before .before .before .before .before .before .before .before .before .before .before .before .before .before .before .before .before .before .before .before .before .prepare .ensures .3) (c .before .before .before .before .before .before .before .before .before .place .ensures .0) (c .before .before .before .before .before .before .before .before .before .place .ensures .1), room .0, room .1)
+    (s .pre .0, prepared-first _ _ _ _ _ _ _ (s .pre .0) _ _ (c .before .before .before .before .before .before .before .before .before .before .before .before .before .before .before .before .before .before .before .before .before .before .before .prepare .ensures .2) _ _ _ _ (c .before .before .before .before .before .before .before .before .before .before .before .before .before .before .before .before .before .before .before .before .before .before .before .prepare .ensures .1) (c .before .before .before .before .before .before .before .before .before .before .before .before .before .before .before .before .before .before .before .before .before .before .before .prepare .ensures .3), standing-first _ _ _ _ _ _ _ (s .pre .0) (s .args .lengths .now) (s .args .start .now) (s .args .end .now) _ _ _ (c .before .before .before .before .before .before .before .before .before .before .before .before .before .before .before .before .before .before .before .before .before .before .before .prepare .ensures .3) (c .before .before .before .before .before .before .before .before .before .place .ensures .0) (c .before .before .before .before .before .before .before .before .before .place .ensures .1), room .0, room .1, s .pre .7)
 
 greatest-end-requires : tie.Need-greatest-end-requires
 greatest-end-requires c κs = let s = c .before .before .before .before .before .before .before .before .before .before .before .before .before .before .before .before .before .before .before .before .before .before .before .before .before .before .before .before .before .before .before .before .before .before .before .before .before .before .before .before .before .before .before .before .before .before .before .before in last-room _ _ _ _ _ _ _ (s .pre .0) (s .args .lengths .now) (s .args .start .now) (s .args .end .now) _ _ _ (c .before .before .before .before .before .before .before .before .before .before .before .before .before .before .before .before .before .before .before .before .before .before .before .before .before .before .before .before .before .before .before .prepare .ensures .3) (c .before .before .before .before .before .before .before .before .before .before .before .before .before .before .before .before .before .place .ensures .0) (c .before .before .before .before .before .before .before .before .before .before .before .before .before .before .before .before .before .place .ensures .1) _ _ _ (c .before .before .before .before .before .before .before .run-rounds .ensures)
