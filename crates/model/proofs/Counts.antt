@@ -14,10 +14,6 @@ parts t d w h =
     let e : t / d * d ≡ t = omega (arith, div-add-mod' t d) in
     omega (arith, ap (λ (x : ℕ). x * (w / d)) e, ap (λ (x : ℕ). x * (t / d)) (div-add-mod' w d))
 
--- w words, in slots of d
-up-le : (d w : ℕ) → (w + (d - 1)) / d ≤ w + (d - 1)
-up-le d w = div-le-self _ _
-
 module _ (b : Bus) where
   pub slot-time : T b % D b ≡ 0 → T b ≡ wordTime b * D b
   unfolding wordTime
@@ -25,6 +21,10 @@ module _ (b : Bus) where
 
   pub word-time : Settings b → 1 ≤ wordTime b
   word-time s = pos (λ e. omega (arith, slot-time (s .divides), ap (λ (x : ℕ). x * D b) e, s .time-some))
+
+  word-most : Settings b → wordTime b ≤ 64
+  unfolding wordTime
+  word-most s = le-trans (div-le-self (T b) (D b)) (s .time-most)
 
   pub own-time : T b % D b ≡ 0 → (w : ℕ) → T b * full b w + w % D b * (T b / D b) ≡ w * wordTime b
   unfolding full wordTime
@@ -68,37 +68,24 @@ module _ (b : Bus) where
       rw (none, zero-div (D b), zero-mod (D b)) (omega arith)
 
   -- ---- at most 8 slots of 64 for each word
+  slots-few : Settings b → (w : ℕ) → slots b w ≤ w
+  slots-few s w = slots-least (s .words-some) w w (omega (arith, mul-le-mul-left w (s .words-some)))
+
   pub delay-most : Settings b → (w k : ℕ) → k ≤ b .cores - 1 → delay b w k ≤ 512 * w
-  unfolding wordTime
   delay-most s w k l =
-      let few : slots b w ≤ w = slots-least (s .words-some) w w (omega (arith, mul-le-mul-left w (s .words-some))) in
-      let waits : T b * slots b w * k ≤ 64 * w * 7 = mul-le-mul (mul-le-mul (s .time-most) few) (omega (arith, s .cores-most)) in
-      let word : T b / D b ≤ 64 = le-trans (div-le-self (T b) (D b)) (s .time-most) in
-      rw (delay-is (s .divides) w k) (omega (arith, waits, mul-le-mul-left w word))
+      let waits : T b * slots b w * k ≤ 64 * w * 7 = mul-le-mul (mul-le-mul (s .time-most) (slots-few s w)) (omega (arith, s .cores-most)) in
+      rw (delay-is (s .divides) w k) (omega (arith, waits, mul-le-mul-left w (word-most s)))
 
-  -- ---- each part at its greatest: 256 edges of 4,095 words, 7 rivals
-  pub slots-most : D b ≤ 64 → (w : ℕ) → w ≤ 1048320 → slots b w ≤ 1048383
-  unfolding slots
-  slots-most h w l = omega (arith, up-le (D b) w)
+  -- ---- the two parts at their greatest, 256 edges of 4,095 words, by the counts that code has
+  pub parts-most : Settings b → (w : ℕ) → w ≤ 1048320 → (n f : ℕ) → n ≡ slots b w → f ≡ full b w
+      → (T b * n ≤ 67092480) × (T b * f + w % D b * (T b / D b) ≤ 67092480)
+  parts-most s w l n f en ef =
+      (rw en (mul-le-mul (s .time-most) (le-trans (slots-few s w) l)), rw (ef, own-time (s .divides) w) (mul-le-mul l (word-most s)))
 
-  module _ (s : Settings b) (w : ℕ) (l : w ≤ 1048320) where
-    pub part-slots : T b * slots b w ≤ 67096512
-    part-slots = mul-le-mul (s .time-most) (slots-most (s .words-most) w l)
+-- and seven rivals
+module _ (x k : ℕ) (h : x ≤ 67092480) (l : k ≤ 7) where
+  pub waiting-fits : x * k < 4294967296
+  waiting-fits = omega (arith, mul-le-mul h l)
 
-    pub part-waiting : (k : ℕ) → k ≤ 7 → T b * slots b w * k ≤ 469675584
-    part-waiting k h = mul-le-mul part-slots h
-
-    pub part-whole : T b * full b w ≤ 67092480
-    unfolding full
-    part-whole = mul-le-mul (s .time-most) (le-trans (div-le-self w (D b)) l)
-
-    pub part-rest : w % D b * (T b / D b) ≤ 4096
-    part-rest =
-        let r : w % D b ≤ 64 = omega (arith, mod-lt w (s .words-some), s .words-most) in
-        let q : T b / D b ≤ 64 = omega (arith, div-le-self (T b) (D b), s .time-most) in
-        mul-le-mul r q
-
-    -- the whole is below 2^30
-    pub delay-fits : (k : ℕ) → k ≤ 7 → delay b w k < 1073741824
-    unfolding delay
-    delay-fits k h = omega (arith, part-waiting k h, part-whole, part-rest)
+  pub delay-fits : (y : ℕ) → y ≤ 67092480 → x * k + y < 4294967296
+  delay-fits y m = omega (arith, mul-le-mul h l)

@@ -178,8 +178,8 @@ pub fn delay(bus: Bus, words: Words, rivals: u32) -> Time
     let full = full_of(bus, words);
     let t = bus.t.0;
     let d = bus.d.0;
-    let waiting = t * slots.0 * rivals;
-    let whole = t * full.0;
-    let rest = words.0 % d * (t / d);
-    Time(waiting + whole + rest)
+    let share = t * slots.0;
+    let own = t * full.0 + words.0 % d * (t / d);
+    let waiting = share * rivals;
+    Time(waiting + own)
 }
