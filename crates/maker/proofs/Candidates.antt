@@ -40,16 +40,17 @@ module _ (q : Plan) (n : ℕ) where
   masked-at : (e : ℕ) → e < edges q → at wordsIn e ≡ maskedAt (q .sources) (q .targets) (q .amounts) n e
   masked-at e h = list-at (maskedAt (q .sources) (q .targets) (q .amounts) n) (edges q) e h
 
-  module _ (links : List ℕ) (w : Listed q links) (h : n ≤ tasks q) where
-    first-long : length (take n (q .costs)) ≡ n
-    first-long = length-take-le n (q .costs) h
+  -- the first m places, with the words of the edges between n of them at most
+  module _ (links : List ℕ) (w : Listed q links) (m : ℕ) (h : m ≤ tasks q) (some : n ≤ m) where
+    first-long : length (take m (q .costs)) ≡ m
+    first-long = length-take-le m (q .costs) h
 
-    between : (e : ℕ) → e < edges q → 0 < at wordsIn e → (source q e < n) × (target q e < n)
+    between : (e : ℕ) → e < edges q → 0 < at wordsIn e → (source q e < m) × (target q e < m)
     between e l c =
         let b = and-both (ltb (source q e) n) (ltb (target q e) n) (carries (ltb (source q e) n && ltb (target q e) n) (amount q e) (rw (masked-at e l) at c)) in
-        (ltb-true (source q e) n (b .0), ltb-true (target q e) n (b .1))
+        (omega (arith, ltb-true (source q e) n (b .0)), omega (arith, ltb-true (target q e) n (b .1)))
 
-    edges-in : Edges n (q .sources) (q .targets) wordsIn
+    edges-in : Edges m (q .sources) (q .targets) wordsIn
     edges-in =
         record {
           few = w .few-edges;
@@ -64,7 +65,7 @@ module _ (q : Plan) (n : ℕ) where
           targets-known = λ e l c. between e l c .1;
         }
 
-    pub ready : (choices : List ℕ) → length choices ≡ n → Ready (q .bus) (take n (q .costs)) (q .sources) (q .targets) wordsIn links choices
+    pub ready : (choices : List ℕ) → length choices ≡ m → Ready (q .bus) (take m (q .costs)) (q .sources) (q .targets) wordsIn links choices
     unfolding isSource
     ready choices e =
         record {
@@ -72,9 +73,9 @@ module _ (q : Plan) (n : ℕ) where
           few = omega (arith, first-long, w .few-tasks);
           costs-most =
               λ a.
-              lt-or-ge a n
-              (λ l. rw (getD-take n (q .costs) a 0 l) (w .costs-most a (omega arith)))
-              (λ l. rw (at-past (take n (q .costs)) a (omega (arith, first-long))) zero-le);
+              lt-or-ge a m
+              (λ l. rw (getD-take m (q .costs) a 0 l) (w .costs-most a (omega arith)))
+              (λ l. rw (at-past (take m (q .costs)) a (omega (arith, first-long))) zero-le);
           edges = rw first-long edges-in;
           choices-all = e ∙ sym first-long;
           links-all = omega (arith, first-long, w .links-all);
@@ -82,7 +83,7 @@ module _ (q : Plan) (n : ℕ) where
         }
 
     -- for the columns as code has them
-    pub ready-lent : (words choices : List ℕ) → words ≡ wordsIn → length choices ≡ n → Ready (q .bus) (take n (q .costs)) (q .sources) (q .targets) words links choices
+    pub ready-lent : (words choices : List ℕ) → words ≡ wordsIn → length choices ≡ m → Ready (q .bus) (take m (q .costs)) (q .sources) (q .targets) words links choices
     ready-lent words choices e l = rw e (ready choices l)
 
 -- ---- the choice of place k, stored behind the earlier ones
@@ -142,4 +143,4 @@ pub ready-all : (q : Plan) (links words choices : List ℕ) → Listed q links �
 ready-all q links words choices w ew ec =
     let long : length choices ≡ tasks q = ap length ec ∙ chosen-length q (tasks q) in
     subst (λ (l : List ℕ). Ready (q .bus) l (q .sources) (q .targets) words links choices) (take-length (q .costs))
-    (ready-lent q (tasks q) links w (omega arith) words choices ew long)
+    (ready-lent q (tasks q) links w (tasks q) (omega arith) (omega arith) words choices ew long)

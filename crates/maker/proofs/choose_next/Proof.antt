@@ -40,7 +40,7 @@ choose-requires c κs =
     let a = s .args in
     let q = planBy (a .bus) (a .costs .now) (a .sources .now) (a .targets .now) (a .amounts .now) in
     let long = length-take-le (a .k + 1) (a .costs .now) (omega (arith, s .pre .1)) in (
-      ready-lent q (a .k + 1) (a .links .now) (s .pre .0) (omega (arith, s .pre .1)) _ _ (fill-take _ _ _ _ (c .before .before .before .before .before .before .before .before .before .before .before .mask .ensures)) (length-take-le (a .k + 1) (a .choices .now) (omega (arith, s .pre .1, s .pre .3))),
+      ready-lent q _ (a .links .now) (s .pre .0) (a .k + 1) (omega (arith, s .pre .1)) (omega arith) _ _ (fill-take _ _ _ _ (c .before .before .before .before .before .before .before .before .before .before .before .mask .ensures)) (length-take-le (a .k + 1) (a .choices .now) (omega (arith, s .pre .1, s .pre .3))),
       omega (arith, long),
       room-less _ (length (a .costs .now)) (omega (arith, long, s .pre .1)) (s .pre .4),
     )
