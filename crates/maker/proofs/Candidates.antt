@@ -40,7 +40,7 @@ module _ (q : Plan) (n : ℕ) where
   masked-at : (e : ℕ) → e < edges q → at wordsIn e ≡ maskedAt (q .sources) (q .targets) (q .amounts) n e
   masked-at e h = list-at (maskedAt (q .sources) (q .targets) (q .amounts) n) (edges q) e h
 
-  -- the first m places, with the words of the edges between n of them at most
+  -- the first m places, with the words of the edges between the first n of them
   module _ (links : List ℕ) (w : Listed q links) (m : ℕ) (h : m ≤ tasks q) (some : n ≤ m) where
     first-long : length (take m (q .costs)) ≡ m
     first-long = length-take-le m (q .costs) h
