@@ -48,7 +48,7 @@ returns-3 : tie.Need-returns-3
 returns-3 c =
     let s = c .before .before .before .before .before .before .before .before .before .before .before .before .before in
     let k = plan-known (c .before .before .before .before .before .before .before .before .before .before .before .before .before .args .plan .now) _ (c .before .before .before .before .before .before .before .before .before .read-plan .ensures) (c .before .before .before .before .before .before .before .enum-told .given .1) in
-    read-short (s .args .plan .now) (s .args .table .now) (s .args .out .now) _ (k .is) _ _ (ap (λ (b : Bus). b .cores) (k .bus)) (k .tasks) _ (c .before .before .before .before .table-check .ensures) (c .before .before .enum-told2 .given .1) _ (c .short-output .ensures) (c .before .if1 .taken)
+    read-short (s .args .plan .now) (s .args .table .now) (s .args .out .now) _ (k .is) _ _ (ap (λ (b : Bus). b .cores) (k .bus)) (k .tasks) _ (c .before .before .before .before .table-check .ensures) (c .before .before .enum-told2 .given .1) _ (c .short-output .ensures) (omega (arith, c .before .if1 .taken))
 
 take-rows-requires : tie.Need-take-rows-requires
 take-rows-requires c κs =

@@ -1,6 +1,7 @@
 -- `table::table_check` meets its contract. The rows, then bytes left over.
 use Rattle.table.proofs.Checks.{rows-bad, rows-over, rows-whole}
 use mathlib.Core.Path.{_≡_, refl, sym, ap, _∙_}
+use native.Mathlib.Omega.{arith}
 use borrow.Author.Needs.{needs}
 use Rattle.table.proofs.table_check.Statement.{statement}
 use Rattle.table.proofs.table_check.Tie as tie
@@ -27,7 +28,7 @@ refused-requires : tie.Need-refused-requires
 refused-requires c κs = search needs
 
 returns-2 : tie.Need-returns-2
-returns-2 c = c .refused .ensures ∙ rows-over (c .before .before .before .before .before .before .args .cores) (c .before .before .before .before .before .before .args .tasks) (c .before .before .before .before .before .before .args .s .now) _ (c .before .before .before .before .rows-good .ensures) (c .before .before .enum-told .given .1) (c .before .if1 .taken)
+returns-2 c = c .refused .ensures ∙ rows-over (c .before .before .before .before .before .before .args .cores) (c .before .before .before .before .before .before .args .tasks) (c .before .before .before .before .before .before .args .s .now) _ (c .before .before .before .before .rows-good .ensures) (c .before .before .enum-told .given .1) (omega (arith, c .before .if1 .taken))
 
 returns-3 : tie.Need-returns-3
 returns-3 c = rows-whole (c .before .before .before .before .before .args .cores) (c .before .before .before .before .before .args .tasks) (c .before .before .before .before .before .args .s .now) _ (c .before .before .before .rows-good .ensures) (c .before .enum-told .given .1) (c .if1 .left)

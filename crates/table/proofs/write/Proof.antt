@@ -54,7 +54,7 @@ put-rows-requires : tie.Need-put-rows-requires
 put-rows-requires c κs =
     let k = plan-known (c .before .before .before .before .before .before .before .before .before .before .before .before .before .args .plan .now) _ (c .before .before .before .before .before .before .before .before .before .read-plan .ensures) (c .before .before .before .before .before .before .before .enum-told .given .1) in
     let g = sym (c .before .before .before .before .numbers-check .ensures) ∙ c .before .before .enum-told2 .given .1 in
-    (omega (arith, k .tasks, k .read .valid .ranges .few-tasks), omega (arith, given-length _ _ _ g), c .before .if1 .left, λ i l. omega (arith, given-core _ _ _ g i l, ap (λ (b : Bus). b .cores) (k .bus), k .read .valid .settings .cores-most))
+    (omega (arith, k .tasks, k .read .valid .ranges .few-tasks), omega (arith, given-length _ _ _ g), omega (arith, c .before .if1 .left), λ i l. omega (arith, given-core _ _ _ g i (omega arith), ap (λ (b : Bus). b .cores) (k .bus), k .read .valid .settings .cores-most))
 
 same-length : tie.Need-same-length
 same-length c = search needs
