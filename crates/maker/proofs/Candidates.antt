@@ -12,14 +12,14 @@ use lib.Dec.{ltb}
 use borrow.Author.Tests.{ltb-true}
 use Rattle.model.specs.Below.{at, bestBelow}
 use Rattle.model.specs.Plan.{Plan, tasks, edges, cores, source, target, amount}
-use Rattle.model.specs.ListRule.{added, candidate, isSource, chosen, winner}
+use Rattle.model.specs.ListRule.{added, candidate, coreIn, chosen, winner}
 use Rattle.model.proofs.Tests.{lt-or-ge, and-both, cond-le}
 use Rattle.model.proofs.Below.{list-length, list-at}
 use Rattle.model.proofs.Plan.{snoc-length}
 use Rattle.model.proofs.Spans.{at-past}
-use Rattle.model.proofs.Chosen.{makespanWith, chosen-length}
+use Rattle.model.proofs.Chosen.{makespanWith, chosen-length, chosen-core}
 use Rattle.contention.specs.Columns.{Edges}
-use Rattle.placing.specs.Candidates.{candidateBy, Ready}
+use Rattle.placing.specs.Candidates.{candidateBy, Ready, FewCores, Chained}
 use Rattle.maker.specs.Renumbering.{maskedAt, maskedBy}
 use Rattle.maker.specs.Choosing.{Listed, spanWith}
 use Rattle.maker.proofs.Choosing.{best-same}
@@ -28,6 +28,28 @@ use Rattle.maker.proofs.Choosing.{best-same}
 carries : (b : Bool) (x : ℕ) → 0 < cond b x 0 → b ≡ true
 carries true x h = refl
 carries false x h = absurd (omega arith)
+
+-- the chains of the first places
+chain-less : (sources targets links : List ℕ) (n m : ℕ) → m ≤ n → Chained sources targets links n → Chained sources targets links m
+chain-less sources targets links n m l w =
+    record {
+      links-all = w .links-all;
+      heads = λ a h. w .heads a (omega arith);
+      nexts = w .nexts;
+      before = λ e h t. w .before e h (omega arith);
+    }
+
+-- the choices made so far are of cores below 8
+module _ (q : Plan) (links : List ℕ) (w : Listed q links) (k : ℕ) where
+  pub chosen-few : FewCores (chosen q k) k
+  chosen-few a h = omega (arith, chosen-core q k a (omega (arith, w .settings .cores-some)) h, w .settings .cores-most)
+
+  pub kept-few : (choices : List ℕ) (n : ℕ) → n ≡ k → take k choices ≡ chosen q k → FewCores (take (k + 1) choices) n
+  kept-few choices n s e a h =
+      let l : a < k = omega arith in
+      let same : at (take (k + 1) choices) a ≡ at (chosen q k) a =
+      getD-take (k + 1) choices a 0 (omega arith) ∙ sym (getD-take k choices a 0 l) ∙ ap (λ (x : List ℕ). at x a) e in
+      rw same (chosen-few a l)
 
 module _ (q : Plan) (n : ℕ) where
   abbrev pub wordsIn : List ℕ
@@ -66,7 +88,6 @@ module _ (q : Plan) (n : ℕ) where
         }
 
     pub ready : (choices : List ℕ) → length choices ≡ m → Ready (q .bus) (take m (q .costs)) (q .sources) (q .targets) wordsIn links choices
-    unfolding isSource
     ready choices e =
         record {
           settings = w .settings;
@@ -78,8 +99,7 @@ module _ (q : Plan) (n : ℕ) where
               (λ l. rw (at-past (take m (q .costs)) a (omega (arith, first-long))) zero-le);
           edges = rw first-long edges-in;
           choices-all = e ∙ sym first-long;
-          links-all = omega (arith, first-long, w .links-all);
-          linked = λ a b l k. w .linked a b l (omega (arith, first-long));
+          chained = chain-less (q .sources) (q .targets) links (tasks q) (length (take m (q .costs))) (omega (arith, first-long)) (w .chained);
         }
 
     -- for the columns as code has them

@@ -2,7 +2,7 @@
 use mathlib.Core.Path.{_≡_, refl, sym, ap, _∙_}
 use mathlib.Core.Bool.{cond}
 use mathlib.Core.List.{List}
-use Prim.Native.Nat.{ℕ, zero, suc, _+_, _≤_, _<_}
+use Prim.Native.Nat.{ℕ, zero, suc, _+_, _-_, _≤_, _<_}
 use native.Mathlib.Numerals.{add-one}
 use native.Mathlib.Omega.{arith}
 use lib.ListN.{length, set}
@@ -10,8 +10,9 @@ use lib.Dec.{ltb}
 use Rattle.model.specs.Below.{at, bestBelow}
 use Rattle.model.specs.declared.Bus.{Bus}
 use borrow.Author.Tests.{lt-ltb, le-ltb}
-use Rattle.model.proofs.Tests.{either, lt-or-ge}
-use Rattle.placing.specs.Candidates.{Ready}
+use lib.Seq.{getD-set-same, getD-set-other}
+use Rattle.model.proofs.Tests.{either, lt-or-ge, same-or-not}
+use Rattle.placing.specs.Candidates.{Ready, FewCores}
 use Rattle.maker.specs.Choosing.{Room, spanWith}
 
 -- ---- the columns that candidates are settled in stay as long as they are
@@ -57,9 +58,23 @@ ready-long bus costs sources targets amounts links choices choices' e r =
       costs-most = r .costs-most;
       edges = r .edges;
       choices-all = e ∙ r .choices-all;
-      links-all = r .links-all;
-      linked = r .linked;
+      chained = r .chained;
     }
+
+-- with another choice at the last place
+pub few-with : (choices : List ℕ) (n choice : ℕ) → length choices ≡ n → FewCores choices (n - 1) → choice < 16 → FewCores (set choices (n - 1) choice) n
+few-with choices n choice e few c a h =
+    same-or-not a (n - 1)
+    (λ q. rw (q, getD-set-same choices (n - 1) choice 0 (omega arith)) (omega arith))
+    (λ d. rw (getD-set-other choices (n - 1) a choice 0 d) (few a (omega arith)))
+
+-- the choices before the last place, told by what any choice there makes of them
+pub few-kept : (choices choices' : List ℕ) (n : ℕ) → ((y : ℕ) → set choices' (n - 1) y ≡ set choices (n - 1) y) → FewCores choices (n - 1) → FewCores choices' (n - 1)
+few-kept choices choices' n same few a h =
+    let d : a ≡ n - 1 → ⊥ = λ q. omega arith in
+    let e : at choices' a ≡ at choices a =
+    sym (getD-set-other choices' (n - 1) a 0 0 d) ∙ ap (λ (x : List ℕ). at x a) (same 0) ∙ getD-set-other choices (n - 1) a 0 0 d in
+    rw e (few a h)
 
 -- the makespans with another choice stand on the others alone
 pub span-same : (bus : Bus) (costs sources targets amounts choices choices' : List ℕ) (place choice : ℕ)

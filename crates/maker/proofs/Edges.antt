@@ -1,19 +1,16 @@
--- The plan's edges by place: an edge's words within the first places, and the matrix of sources. Assumes nothing.
+-- The plan's edges by place: an edge's words within the first places, and the chains of edges. Assumes nothing.
 use mathlib.Core.Path.{_≡_, refl, sym, _∙_}
-use mathlib.Core.Bool.{Bool, true, false, cond, not, _&&_, _||_}
 use mathlib.Core.List.{List}
 use Prim.Native.Nat.{ℕ, zero, suc, _+_, _*_, _≤_, _<_}
 use native.Mathlib.Numerals.{add-one}
 use native.Mathlib.Omega.{arith}
-use lib.Dec.{ltb, eqb}
+use lib.Dec.{ltb}
 use lib.ListN.{length, set, replicate, length-set, length-replicate}
 use lib.Seq.{getD-set-same, getD-set-other}
 use borrow.Author.Tests.{lt-ltb, le-ltb, eq-eqb, ne-eqb}
-use Rattle.model.specs.Below.{at, anyBelow}
-use Rattle.model.specs.Plan.{Plan, edges, source, target}
-use Rattle.model.specs.ListRule.{isSource}
-use Rattle.model.proofs.Tests.{same-or-not, and-no, or-right}
-use Rattle.model.proofs.Below.{join-none, join-suc, any-same}
+use Rattle.model.specs.Below.{at}
+use Rattle.model.proofs.Tests.{same-or-not, and-no, below-suc}
+use Rattle.placing.specs.Candidates.{lastTo}
 use Rattle.maker.specs.Renumbering.{maskedAt, linkedBy}
 
 -- ---- words, by the numbers read
@@ -27,72 +24,69 @@ module _ (sources targets amounts : List ℕ) (k e s t : ℕ) (es : s ≡ at sou
 pub masked-from : (sources targets amounts : List ℕ) (k e s : ℕ) → s ≡ at sources e → k ≤ s → 0 ≡ maskedAt sources targets amounts k e
 masked-from sources targets amounts k e s es l = rw (← es, le-ltb s k l)
 
--- ---- the matrix of sources
-pub linked-length : (sources targets links : List ℕ) (m : ℕ) → length (linkedBy sources targets links m) ≡ length links
+-- ---- the chains of edges
+pub linked-length : (targets links : List ℕ) (m : ℕ) → length (linkedBy targets links m) ≡ length links
 unfolding linkedBy
-linked-length sources targets links zero = refl
-linked-length sources targets links (suc e) =
-    length-set (linkedBy sources targets links e) (64 * at targets e + at sources e) 1 ∙ linked-length sources targets links e
+linked-length targets links zero = refl
+linked-length targets links (suc e) = simp length-set (linked-length targets links e)
 
--- one edge more, by the numbers read
-pub linked-more : (sources targets links l : List ℕ) (e a b : ℕ) → b ≡ at sources e → a ≡ at targets e → l ≡ linkedBy sources targets links e
-    → set l (64 * a + b) 1 ≡ linkedBy sources targets links (e + 1)
+-- one edge more
+pub linked-more : (targets links l : List ℕ) (e a x y : ℕ) → a ≡ at targets e → l ≡ linkedBy targets links e → x ≡ at l a → y ≡ e + 1
+    → set (set l (64 + e) x) a y ≡ linkedBy targets links (e + 1)
 unfolding linkedBy
-linked-more sources targets links l e a b eb ea q = rw (add-one, q, eb, ea)
+linked-more targets links l e a x y ea q ex ey = rw (add-one, ← q, ← ea, ex, ey)
 
--- an entry is 1 where an edge was stored
 at-zeros : (n x : ℕ) → at (replicate n 0) x ≡ 0
 at-zeros zero x = refl
 at-zeros (suc n) zero = refl
 at-zeros (suc n) (suc x) = at-zeros n x
 
-or-no : (a : Bool) → (a || false) ≡ a
-or-no true = refl
-or-no false = refl
+module _ (targets : List ℕ) (size : ℕ) where
+  abbrev linked : ℕ → List ℕ
+  linked m = linkedBy targets (replicate size 0) m
 
-module _ (sources targets links : List ℕ) where
-  abbrev entry : ℕ → ℕ
-  entry e = 64 * at targets e + at sources e
+  module _ (e : ℕ) (known : at targets e < 64) (room : 64 + e < size) where
+    abbrev a : ℕ
+    a = at targets e
 
-  linked-at : (m x : ℕ) → ((e : ℕ) → e < m → entry e < length links) → at (linkedBy sources targets links m) x ≡ cond (anyBelow (λ e. eqb (entry e) x) m) 1 (at links x)
-  unfolding linkedBy
-  linked-at zero x h = rw (join-none _||_ false (λ e. eqb (entry e) x))
-  linked-at (suc m) x h =
-      let l : List ℕ = linkedBy sources targets links m in
-      let fits : entry m < length l = omega (arith, linked-length sources targets links m, h m (omega arith)) in
-      rw (join-suc _||_ false (λ e. eqb (entry e) x) m)
-      (same-or-not (entry m) x
-      (λ q. rw (eq-eqb (entry m) x q, or-right (anyBelow (λ e. eqb (entry e) x) m) true refl, ← q) (getD-set-same l (entry m) 1 0 fits))
-      (λ d.
-      rw (ne-eqb (entry m) x d, or-no (anyBelow (λ e. eqb (entry e) x) m))
-      (getD-set-other l (entry m) x 1 0 (λ q. d (sym q)) ∙ linked-at m x (λ e k. h e (omega arith)))))
+    fits : 64 + e < length (linked e)
+    fits = omega (arith, linked-length targets (replicate size 0) e, length-replicate {A = ℕ} size 0)
 
--- two entries are the same where row and column are
-same-entry : (s t a b : ℕ) → s < 64 → b < 64 → eqb (64 * t + s) (64 * a + b) ≡ (eqb s b && eqb t a)
-same-entry s t a b h k =
-    same-or-not s b
-    (λ e.
-    rw (eq-eqb s b e)
-    (same-or-not t a
-    (λ f. rw (eq-eqb t a f) (eq-eqb (64 * t + s) (64 * a + b) (omega arith)))
-    (λ f. rw (ne-eqb t a f) (ne-eqb (64 * t + s) (64 * a + b) (λ g. f (omega arith))))))
-    (λ e. rw (ne-eqb s b e) (ne-eqb (64 * t + s) (64 * a + b) (λ g. e (omega arith))))
+    linked-target : at (linked (suc e)) a ≡ e + 1
+    unfolding linkedBy
+    linked-target = getD-set-same (set (linked e) (64 + e) (at (linked e) a)) a (e + 1) 0 (simp length-set (omega (arith, fits)))
 
-flag : (b : Bool) → not (eqb (cond b 1 0) 0) ≡ b
-flag true = refl
-flag false = refl
+    linked-edge : at (linked (suc e)) (64 + e) ≡ at (linked e) a
+    unfolding linkedBy
+    linked-edge =
+        getD-set-other (set (linked e) (64 + e) (at (linked e) a)) a (64 + e) (e + 1) 0 (λ q. omega arith)
+        ∙ getD-set-same (linked e) (64 + e) (at (linked e) a) 0 fits
 
--- so it tells the sources of each place
-pub linked-sources : (q : Plan) → ((e : ℕ) → e < edges q → (source q e < 64) × (target q e < 64)) → (a b : ℕ) → b < 64
-    → not (eqb (at (linkedBy (q .sources) (q .targets) (replicate 4096 0) (edges q)) (64 * a + b)) 0) ≡ isSource q b a
-unfolding isSource
-linked-sources q known a b k =
-    let x = 64 * a + b in
-    let zeros : List ℕ = replicate 4096 0 in
-    let hit : ℕ → Bool = λ e. eqb (64 * target q e + source q e) x in
-    rw (
-      linked-at (q .sources) (q .targets) zeros (edges q) x (λ e h. omega (arith, known e h .0, known e h .1, length-replicate {A = ℕ} 4096 0)),
-      at-zeros 4096 x,
-      flag (anyBelow hit (edges q)),
-    )
-    (any-same hit (λ e. eqb (source q e) b && eqb (target q e) a) (edges q) (λ e h. same-entry (source q e) (target q e) a b (known e h .0) k))
+    linked-other : (x : ℕ) → (x ≡ a → ⊥) → (x ≡ 64 + e → ⊥) → at (linked (suc e)) x ≡ at (linked e) x
+    unfolding linkedBy
+    linked-other x n m =
+        getD-set-other (set (linked e) (64 + e) (at (linked e) a)) a x (e + 1) 0 n
+        ∙ getD-set-other (linked e) (64 + e) x (at (linked e) a) 0 m
+
+  module _ (known : (e : ℕ) → 64 + e < size → at targets e < 64) where
+    -- at each place the last edge to it
+    pub linked-head : (m a : ℕ) → 64 + m ≤ size → a < 64 → at (linked m) a ≡ lastTo targets a m
+    unfolding linkedBy lastTo
+    linked-head zero a l h = at-zeros size a
+    linked-head (suc e) a l h =
+        let k = known e (omega arith) in
+        same-or-not a (at targets e)
+        (λ q. rw (q, eq-eqb (at targets e) (at targets e) refl) (linked-target e k (omega arith) ∙ omega arith))
+        (λ d.
+        rw (ne-eqb (at targets e) a (λ q. d (sym q)))
+        (linked-other e k (omega arith) a d (λ q. omega arith) ∙ linked-head e a (omega arith) h))
+
+    -- and behind each edge the one before it to the same place
+    pub linked-next : (m e : ℕ) → 64 + m ≤ size → e < m → at (linked m) (64 + e) ≡ lastTo targets (at targets e) e
+    linked-next zero e l h = absurd (omega arith)
+    linked-next (suc m) e l h =
+        let k = known m (omega arith) in
+        below-suc e m h
+        (λ j. linked-other m k (omega arith) (64 + e) (λ q. omega arith) (λ q. omega arith) ∙ linked-next m e (omega arith) j)
+        (λ q.
+        rw q (linked-edge m k (omega arith) ∙ linked-head m (at targets m) (omega arith) k))

@@ -1,7 +1,7 @@
 -- A plan by list place, as its columns hold it, and the table that is made of it. Assumes nothing.
 use mathlib.Core.Path.{_≡_, sym, ap, subst, _∙_}
 use mathlib.Core.List.{List, _++_}
-use Prim.Native.Nat.{ℕ, _+_, _*_, _<_}
+use Prim.Native.Nat.{ℕ, _+_, _*_, _≤_, _<_}
 use native.Mathlib.Omega.{arith}
 use lib.ListN.{length, drop, replicate, length-replicate}
 use Rattle.model.specs.Below.{at}
@@ -9,14 +9,16 @@ use Rattle.model.specs.Plan.{Plan, Valid, tasks, edges, source, target}
 use Rattle.model.specs.Graph.{placeOf, listOrder}
 use Rattle.model.specs.Table.{bytes}
 use Rattle.model.specs.ListRule.{byPlace, finished, makespanOf, winner, made, madeBytes, madeMakespan}
+use Rattle.model.proofs.Tests.{lt-or-ge}
 use Rattle.model.proofs.Below.{list-length}
-use Rattle.model.proofs.Graph.{order-length, order-place, order-task}
+use Rattle.model.proofs.Spans.{at-past}
+use Rattle.model.proofs.Graph.{order-length, order-place, order-task, order-taken, order-listing}
 use Rattle.model.proofs.ByPlace.{by-place-tasks, by-place-edges, by-place-cost, by-place-source, by-place-target}
 use Rattle.model.proofs.Accepts.{made-makespan}
-use Rattle.placing.specs.Candidates.{planBy}
+use Rattle.placing.specs.Candidates.{planBy, Chained}
 use Rattle.maker.specs.Renumbering.{costsBy, placesBy, linkedBy}
 use Rattle.maker.specs.Choosing.{Listed, byTask, Ordered, Planned}
-use Rattle.maker.proofs.Edges.{linked-length, linked-sources}
+use Rattle.maker.proofs.Edges.{linked-length, linked-head, linked-next}
 
 -- ---- the plan by place
 module _ (p : Plan) (order : List ℕ) (k : Planned p order) where
@@ -38,26 +40,47 @@ module _ (p : Plan) (order : List ℕ) (k : Planned p order) where
   pub order-known : (a : ℕ) → a < length order → at order a < tasks p
   order-known a h = rw (k .listed) (order-task p (k .full) a (omega (arith, order-long)))
 
-  known : (e : ℕ) → e < edges (byPlace p) → (source (byPlace p) e < 64) × (target (byPlace p) e < 64)
+  known : (e : ℕ) → e < edges (byPlace p) → target (byPlace p) e < 64
   known e h =
       let l : e < edges p = omega (arith, by-place-edges p) in
-      let few = v .ranges .few-tasks in (
-        omega (arith, by-place-source p e l, order-place p (k .full) (source p e) (v .ranges .sources-known e l)),
-        omega (arith, by-place-target p e l, order-place p (k .full) (target p e) (v .ranges .targets-known e l)),
-      )
+      omega (arith, v .ranges .few-tasks, by-place-target p e l, order-place p (k .full) (target p e) (v .ranges .targets-known e l))
 
   targets-long : length (byPlace p .targets) ≡ edges (byPlace p)
   unfolding byPlace
   targets-long = list-length (λ e. placeOf (listOrder p) (target p e)) (edges p) ∙ sym (by-place-edges p)
 
-  pub edges-known : (q : Plan) → q ≡ byPlace p → (length (q .targets) ≡ edges q) × ((e : ℕ) → e < edges q → (source q e < 64) × (target q e < 64))
-  edges-known q e = rw e (targets-long, known)
+  -- an edge's source stands before its target
+  before : (e : ℕ) → e < edges (byPlace p) → source (byPlace p) e < target (byPlace p) e
+  before e h =
+      let l : e < edges p = omega (arith, by-place-edges p) in
+      omega (
+        arith,
+        by-place-source p e l,
+        by-place-target p e l,
+        order-listing p .rises e l (order-taken p (k .full) (target p e) (v .ranges .targets-known e l)),
+      )
+
+  chains : Chained (byPlace p .sources) (byPlace p .targets) (linkedBy (byPlace p .targets) (replicate 320 0) (edges (byPlace p))) (tasks (byPlace p))
+  chains =
+      let m = by-place-edges p in
+      let few : edges (byPlace p) ≤ 256 = omega (arith, v .ranges .few-edges) in
+      let known' : (e : ℕ) → 64 + e < 320 → at (byPlace p .targets) e < 64 =
+      λ e h. lt-or-ge e (edges (byPlace p)) (λ l. known e l) (λ l. omega (arith, at-past (byPlace p .targets) e (omega (arith, targets-long)))) in
+      record {
+        links-all = omega (arith, linked-length (byPlace p .targets) (replicate 320 0) (edges (byPlace p)), length-replicate {A = ℕ} 320 0);
+        heads = λ a h. linked-head (byPlace p .targets) 320 known' (edges (byPlace p)) a (omega arith) (omega (arith, by-place-tasks p, v .ranges .few-tasks));
+        nexts = λ e h. linked-next (byPlace p .targets) 320 known' (edges (byPlace p)) e (omega arith) h;
+        before = λ e h _. before e h;
+      }
+
+  pub targets-known : (q : Plan) → q ≡ byPlace p → (length (q .targets) ≤ 256) × ((e : ℕ) → e < length (q .targets) → target q e < 64)
+  targets-known q e = rw e (omega (arith, targets-long, by-place-edges p, v .ranges .few-edges), λ x h. known x (omega (arith, targets-long)))
 
   pub tasks-same : (q : Plan) → q ≡ byPlace p → tasks q ≡ tasks p
   tasks-same q e = ap tasks e ∙ by-place-tasks p
 
   module _ (costs-most : (a : ℕ) → a < length order → at (p .costs) (at order a) < 65536) where
-    listed-plan : (links : List ℕ) → links ≡ linkedBy (byPlace p .sources) (byPlace p .targets) (replicate 4096 0) (edges (byPlace p)) → Listed (byPlace p) links
+    listed-plan : (links : List ℕ) → links ≡ linkedBy (byPlace p .targets) (replicate 320 0) (edges (byPlace p)) → Listed (byPlace p) links
     unfolding byPlace
     listed-plan links e =
         let n = by-place-tasks p in
@@ -71,12 +94,11 @@ module _ (p : Plan) (order : List ℕ) (k : Planned p order) where
           targets-all = targets-long;
           amounts-all = v .ranges .amounts-all ∙ sym m;
           amounts-most = v .ranges .amounts-most;
-          links-all = omega (arith, ap length e, linked-length (byPlace p .sources) (byPlace p .targets) (replicate 4096 0) (edges (byPlace p)), length-replicate {A = ℕ} 4096 0);
-          linked = λ a b l h. rw e (linked-sources (byPlace p) known a b (omega arith));
+          chained = rw e chains;
         }
 
-    pub listed-by : (q : Plan) (links : List ℕ) → q ≡ byPlace p → links ≡ linkedBy (q .sources) (q .targets) (replicate 4096 0) (edges q) → Listed q links
-    listed-by q links e = subst (λ (x : Plan). links ≡ linkedBy (x .sources) (x .targets) (replicate 4096 0) (edges x) → Listed x links) (sym e) (listed-plan links)
+    pub listed-by : (q : Plan) (links : List ℕ) → q ≡ byPlace p → links ≡ linkedBy (q .targets) (replicate 320 0) (length (q .targets)) → Listed q links
+    listed-by q links e = subst (λ (x : Plan). links ≡ linkedBy (x .targets) (replicate 320 0) (length (x .targets)) → Listed x links) (sym e) (λ l. listed-plan links (l ∙ ap (linkedBy (byPlace p .targets) (replicate 320 0)) targets-long))
 
   -- the answer and the bytes are the list rule's
   pub made-by : (q : Plan) (r : ℕ) (out new : List ℕ) → q ≡ byPlace p

@@ -2,18 +2,16 @@
 -- `chosen`), over the columns by place. Assumes nothing.
 use Prim.Native.Nat.{ℕ, _+_, _*_, _≤_, _<_}
 use mathlib.Core.Path.{_≡_}
-use mathlib.Core.Bool.{false, not}
+use mathlib.Core.Bool.{false}
 use mathlib.Core.List.{List}
 use lib.ListN.{length, set}
-use lib.Dec.{eqb}
-use Rattle.model.specs.Below.{at}
 use Rattle.model.specs.Counts.{Settings}
 use Rattle.model.specs.Plan.{Plan, Valid, tasks, edges, cost, amount}
 use Rattle.model.specs.Graph.{placeOf, listOrder, leftOver}
 use Rattle.model.specs.Table.{Table}
-use Rattle.model.specs.ListRule.{isSource, makespanOf}
+use Rattle.model.specs.ListRule.{makespanOf}
 use Rattle.model.specs.declared.Bus.{Bus}
-use Rattle.placing.specs.Candidates.{candidateBy}
+use Rattle.placing.specs.Candidates.{candidateBy, Chained}
 
 -- the columns that a candidate of k places is settled in
 pub record Room (k : ℕ) (cores core words lengths start end : List ℕ) : Type 0 where
@@ -29,7 +27,7 @@ unfoldable pub spanWith : Bus → List ℕ → List ℕ → List ℕ → List �
 spanWith bus costs sources targets amounts choices place choice =
     makespanOf (candidateBy bus costs sources targets amounts (set choices place choice))
 
--- what holds of a plan in list order, and of its matrix of sources (`Ready` of every candidate follows from it)
+-- what holds of a plan in list order, and of the chains of its edges (`Ready` of every candidate follows from it)
 pub record Listed (q : Plan) (links : List ℕ) : Type 0 where
   pub settings : Settings (q .bus)
   pub few-tasks : tasks q ≤ 64
@@ -38,8 +36,7 @@ pub record Listed (q : Plan) (links : List ℕ) : Type 0 where
   pub targets-all : length (q .targets) ≡ edges q
   pub amounts-all : length (q .amounts) ≡ edges q
   pub amounts-most : (e : ℕ) → amount q e ≤ 4095
-  pub links-all : 64 * tasks q ≤ length links
-  pub linked : (a b : ℕ) → b < a → a < tasks q → not (eqb (at links (64 * a + b)) 0) ≡ isSource q b a
+  pub chained : Chained (q .sources) (q .targets) links (tasks q)
 
 -- a plan that was read, and its list order
 pub record Planned (p : Plan) (order : List ℕ) : Type 0 where

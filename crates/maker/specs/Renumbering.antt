@@ -25,10 +25,13 @@ maskedAt sources targets amounts k e = cond (ltb (at sources e) k && ltb (at tar
 abbrev pub maskedBy : List ℕ → List ℕ → List ℕ → ℕ → List ℕ
 maskedBy sources targets amounts k = listBelow (maskedAt sources targets amounts k) (length sources)
 
--- a matrix with 1 stored at 64 · target + source for the first m edges
-unfoldable pub linkedBy : List ℕ → List ℕ → List ℕ → ℕ → List ℕ
-linkedBy sources targets links zero = links
-linkedBy sources targets links (suc e) = set (linkedBy sources targets links e) (64 * at targets e + at sources e) 1
+-- the chains of the first m edges: at 64 + e what stood at its target, and there the edge, as one more than its number
+unfoldable pub linkedBy : List ℕ → List ℕ → ℕ → List ℕ
+linkedBy targets links zero = links
+linkedBy targets links (suc e) =
+    let l = linkedBy targets links e in
+    let a = at targets e in
+    set (set l (64 + e) (at l a)) a (e + 1)
 
 -- ---- the table by task: of the task at place a, its core and the windows of phases 2a and 2a + 1
 abbrev pub tableBy : List ℕ → List ℕ → List ℕ → List ℕ → Table

@@ -10,7 +10,7 @@ ghost use Rattle.model.specs.Graph.{placeOf};
 ghost use Rattle.model.specs.Table.{bytes};
 ghost use Rattle.model.specs.ListRule.{finished, makespanOf, chosen, winner, madeBytes, madeMakespan};
 ghost use Rattle.model.specs.Answers.{madeOf, madeOutput};
-ghost use Rattle.placing.specs.Candidates.{planBy, Ready};
+ghost use Rattle.placing.specs.Candidates.{planBy, Ready, FewCores};
 ghost use Rattle.maker.specs.Choosing.{Room, Listed, spanWith, byTask, Ordered, Planned};
 ghost use Rattle.maker.specs.Renumbering.{costsBy, placesBy, maskedAt, maskedBy, linkedBy, tableBy, Rows, numberOf};
 use model::Bus;
@@ -90,15 +90,16 @@ fn mask(sources: &[u8], targets: &[u8], amounts: &[u16], k: usize, column: &mut 
     }
 }
 
-// The sources of each place: 1 at 64a + b where place b is a source of place a.
-fn link(sources: &[u8], targets: &[u8], links: &mut [u8])
-    requires { ⌜ (length (now targets) ≡ length (now sources)) × (4096 ≤ length (now links)) × ((e : ℕ) → e < length (now sources) → (at (now sources) e < 64) × (at (now targets) e < 64)) ⌝ }
-    ensures { λ _. ⌜ now (links .exit) ≡ linkedBy (now (sources .entry)) (now (targets .entry)) (now (links .entry)) (length (now (sources .entry))) ⌝ }
+// The edges to each place, as a chain: at a the last edge to place a, at 64 + e the last one before e to the same place, each as
+// one more than its number; 0 where there is none.
+fn link(targets: &[u8], links: &mut [u16])
+    requires { ⌜ (length (now targets) ≤ 256) × (64 + length (now targets) ≤ length (now links)) × ((e : ℕ) → e < length (now targets) → at (now targets) e < 64) ⌝ }
+    ensures { λ _. ⌜ now (links .exit) ≡ linkedBy (now (targets .entry)) (now (links .entry)) (length (now (targets .entry))) ⌝ }
 {
-    for e in 0..sources.len() {
-        let b = index(sources[e]);
+    for e in 0..targets.len() {
         let a = index(targets[e]);
-        links[64 * a + b] = 1;
+        links[64 + e] = links[a];
+        links[a] = (e + 1) as u16;
     }
 }
 
@@ -171,7 +172,7 @@ fn span_with(
     start: &mut [u32],
     end: &mut [u32],
 ) -> u32
-    requires { ⌜ Ready bus (now costs) (now sources) (now targets) (now amounts) (now links) (now choices) × (1 ≤ length (now costs)) × Room (length (now costs)) (now cores) (now core) (now words) (now lengths) (now start) (now end) ⌝ }
+    requires { ⌜ Ready bus (now costs) (now sources) (now targets) (now amounts) (now links) (now choices) × (1 ≤ length (now costs)) × Room (length (now costs)) (now cores) (now core) (now words) (now lengths) (now start) (now end) × FewCores (now choices) (length (now costs) - 1) × (choice < 16) ⌝ }
     ensures { λ r. ⌜ (r ≡ spanWith bus (now (costs .entry)) (now (sources .entry)) (now (targets .entry)) (now (amounts .entry)) (now (choices .entry)) (length (now (costs .entry)) - 1) choice) × (now (choices .exit) ≡ set (now (choices .entry)) (length (now (costs .entry)) - 1) choice) ⌝ }
 {
     let last = costs.len() - 1;
@@ -209,7 +210,7 @@ fn choose(
     start: &mut [u32],
     end: &mut [u32],
 )
-    requires { ⌜ Ready bus (now costs) (now sources) (now targets) (now amounts) (now links) (now choices) × (1 ≤ length (now costs)) × Room (length (now costs)) (now cores) (now core) (now words) (now lengths) (now start) (now end) ⌝ }
+    requires { ⌜ Ready bus (now costs) (now sources) (now targets) (now amounts) (now links) (now choices) × (1 ≤ length (now costs)) × Room (length (now costs)) (now cores) (now core) (now words) (now lengths) (now start) (now end) × FewCores (now choices) (length (now costs) - 1) ⌝ }
     ensures { λ _. ⌜ now (choices .exit) ≡ set (now (choices .entry)) (length (now (costs .entry)) - 1) (bestBelow (spanWith bus (now (costs .entry)) (now (sources .entry)) (now (targets .entry)) (now (amounts .entry)) (now (choices .entry)) (length (now (costs .entry)) - 1)) (2 * bus .cores)) ⌝ }
 {
     // more than any makespan
@@ -439,20 +440,20 @@ fn make_table(
     let mut times = [0u32; 64];
     let mut from = [0u8; 256];
     let mut to = [0u8; 256];
-    let mut links = [0u8; 4096];
+    let mut links = [0u16; 320];
     fill_costs(costs, order, &mut times);
     fill_places(order, sources, &mut from);
     fill_places(order, targets, &mut to);
     let times = &times[..order.len()];
     let from = &from[..sources.len()];
     let to = &to[..targets.len()];
-    link(from, to, &mut links);
+    link(to, &mut links);
     schedule(bus, times, from, to, amounts, &links, order, out)
 }
 
 // The table of a plan by the list rule: its bytes at the front of a lent output, and the makespan.
 // Stack: the arrays of `make` and of the functions it calls are 13,376 bytes together. The plan's columns 3 * 1,216 (as read, as
-// held, as lent); the plan by place 4,864, of which the matrix of sources is 4,096; the columns of a candidate 3,584; the
+// held, as lent); the plan by place 1,408, of which the chains of edges are 640; the columns of a candidate 3,584; the
 // table's numbers 1,280.
 pub fn make(plan: &[u8], out: &mut [u8]) -> Made
     ensures answer { λ r. ⌜ r ≡ madeOf (now (plan .entry)) (now (out .entry)) ⌝ }

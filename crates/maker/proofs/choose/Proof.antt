@@ -1,6 +1,6 @@
 -- `maker::choose` meets its contract. The best of the choices tried.
 use Rattle.maker.specs.Choosing.{spanWith}
-use Rattle.maker.proofs.Choosing.{Kept, room-kept, ready-long, span-same, Leading, leading-none, leading-more}
+use Rattle.maker.proofs.Choosing.{Kept, room-kept, ready-long, few-kept, span-same, Leading, leading-none, leading-more}
 use lib.ListN.{length, set, length-set}
 use lib.Seq.{set-set}
 use Prim.Native.Nat.{ℕ, _*_, _-_, _≤_}
@@ -27,7 +27,7 @@ span-with-requires : tie.Need-span-with-requires Inv-loop μ-loop
 span-with-requires c κs =
     let s = c .before .before .before .before .before .before .before .before .before .before .before .before .before .before .before .before .before .before .before .before .before .before in
     let l = c .before .before .before .before .before .before .before .before .loop .inv in
-    (ready-long _ _ _ _ _ _ (s .args .choices .now) _ (l .2) (s .pre .0), s .pre .1, room-kept _ (l .3) (s .pre .2))
+    (ready-long _ _ _ _ _ _ (s .args .choices .now) _ (l .2) (s .pre .0), s .pre .1, room-kept _ (l .3) (s .pre .2), few-kept (s .args .choices .now) (c .before .before .before .before .before .before .before .before .loop .choices) _ (l .1) (s .pre .3), omega (arith, s .pre .0 .settings .cores-most, c .before .before .before .before .before .before .before .loop-test .taken))
 
 pick-requires : tie.Need-pick-requires Inv-loop μ-loop
 pick-requires c κs = search needs

@@ -3,7 +3,7 @@ use Rattle.model.proofs.Below.{take-count}
 use Rattle.placing.specs.Candidates.{planBy}
 use Rattle.contention.proofs.Columns.{fill-take, fill-count}
 use Rattle.maker.proofs.Choosing.{room-less}
-use Rattle.maker.proofs.Candidates.{ready-lent, chosen-lent}
+use Rattle.maker.proofs.Candidates.{ready-lent, chosen-lent, kept-few}
 use lib.ListN.{length}
 use lib.Seq.{length-take-le}
 use Prim.Native.Nat.{_+_}
@@ -43,6 +43,7 @@ choose-requires c κs =
       ready-lent q _ (a .links .now) (s .pre .0) (a .k + 1) (omega (arith, s .pre .1)) (omega arith) _ _ (fill-take _ _ _ _ (c .before .before .before .before .before .before .before .before .before .before .before .mask .ensures)) (length-take-le (a .k + 1) (a .choices .now) (omega (arith, s .pre .1, s .pre .3))),
       omega (arith, long),
       room-less _ (length (a .costs .now)) (omega (arith, long, s .pre .1)) (s .pre .4),
+      kept-few q (a .links .now) (s .pre .0) (a .k) (a .choices .now) _ (omega (arith, long)) (s .pre .5),
     )
 
 same-length : tie.Need-same-length

@@ -2,8 +2,9 @@
 use Rattle.model.specs.ListRule.{makespanOf}
 use Rattle.placing.specs.Candidates.{planBy}
 use Rattle.contention.proofs.Columns.{fill-take, fill-count}
-use Rattle.maker.proofs.Candidates.{ready-all, winner-is}
+use Rattle.maker.proofs.Candidates.{ready-all, winner-is, chosen-few}
 use Rattle.maker.proofs.Finishing.{rows-ready, cores-small, finished-bytes}
+use lib.ListN.{length}
 use mathlib.Core.Path.{ap, _∙_}
 use native.Mathlib.Omega.{arith}
 use borrow.Author.Needs.{needs}
@@ -26,7 +27,7 @@ settle-requires c κs =
     let a = s .args in
     let q = planBy (a .bus) (a .costs .now) (a .sources .now) (a .targets .now) (a .amounts .now) in
     let r = s .pre .4 in
-    (ready-all q (a .links .now) _ _ (s .pre .0) (fill-take _ _ _ _ (c .before .before .before .before .before .before .before .before .before .mask .ensures)) (s .pre .2), r .by-place, r .by-phase, r .loads, r .spans, r .starts, r .ends)
+    (ready-all q (a .links .now) _ _ (s .pre .0) (fill-take _ _ _ _ (c .before .before .before .before .before .before .before .before .before .mask .ensures)) (s .pre .2), r .by-place, r .by-phase, r .loads, r .spans, r .starts, r .ends, rw (s .pre .2) (chosen-few q (a .links .now) (s .pre .0) (length (a .costs .now))))
 
 put-table-requires : tie.Need-put-table-requires
 put-table-requires c κs =

@@ -1,7 +1,7 @@
 -- `maker::make_table` meets its contract. The plan by place, then its schedule.
 use Rattle.placing.specs.Candidates.{planBy}
 use Rattle.contention.proofs.Columns.{fill-take, fill-count}
-use Rattle.maker.proofs.Listing.{order-long, order-known, by-place, edges-known, tasks-same, ordered, listed-by, made-by}
+use Rattle.maker.proofs.Listing.{order-long, order-known, by-place, targets-known, tasks-same, ordered, listed-by, made-by}
 use native.Mathlib.Omega.{arith}
 use borrow.Author.Needs.{needs}
 use borrow.Author.Needs.{needs}
@@ -71,8 +71,8 @@ link-requires c κs =
     let a = s .args in
     let p = planBy (a .bus) (a .costs .now) (a .sources .now) (a .targets .now) (a .amounts .now) in
     let e = by-place p (a .order .now) (s .pre .0) _ _ _ (fill-take _ _ _ _ (c .before .before .before .before .before .before .before .before .before .before .before .fill-costs .ensures .0)) (fill-take _ _ _ _ (c .before .before .before .before .before .before .before .before .fill-places .ensures)) (fill-take _ _ _ _ (c .before .before .before .before .before .fill-places2 .ensures)) in
-    let w = edges-known p (a .order .now) (s .pre .0) _ e in
-    (w .0, omega arith, w .1)
+    let w = targets-known p (a .order .now) (s .pre .0) _ e in
+    (w .0, omega (arith, w .0), w .1)
 
 slice-aggregate-schedule : tie.Need-slice-aggregate-schedule
 slice-aggregate-schedule c = search needs

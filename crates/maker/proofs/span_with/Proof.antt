@@ -1,6 +1,6 @@
 -- `maker::span_with` meets its contract. The choice is stored, and the candidate settled.
 use Rattle.maker.specs.Choosing.{spanWith}
-use Rattle.maker.proofs.Choosing.{ready-long}
+use Rattle.maker.proofs.Choosing.{ready-long, few-with}
 use lib.ListN.{length-set}
 use mathlib.Core.Path.{refl}
 use borrow.Author.Needs.{needs}
@@ -21,7 +21,7 @@ settle-requires : tie.Need-settle-requires
 settle-requires c κs =
     let s = c .before .before .before .before .before .before .before .before .before .before .before .before .before .before .before .before .before .before .before in
     let r = s .pre .2 in
-    (ready-long _ _ _ _ _ _ (s .args .choices .now) _ (length-set (s .args .choices .now) _ _) (s .pre .0), r .by-place, r .by-phase, r .loads, r .spans, r .starts, r .ends)
+    (ready-long _ _ _ _ _ _ (s .args .choices .now) _ (length-set (s .args .choices .now) _ _) (s .pre .0), r .by-place, r .by-phase, r .loads, r .spans, r .starts, r .ends, few-with (s .args .choices .now) _ _ (s .pre .0 .choices-all) (s .pre .3) (s .pre .4))
 
 same-length : tie.Need-same-length
 same-length c = search needs

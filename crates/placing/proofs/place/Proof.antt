@@ -97,8 +97,7 @@ loop-again c =
     let d = i .1 (s .args .bus) (s .pre .0) (s .pre .1) f in
     let room = room-next _ _ _ _ _ _ _ _ _ _ (s .pre .0) (s .pre .1) f (s .args .start .now) (s .args .end .now) _ _ _ (s .pre .2) (s .pre .3) h d in
     let d' = done-more _ _ _ _ _ _ _ _ _ _ (s .pre .0) (s .pre .1) f (s .args .start .now) (s .args .end .now) _ _ _ (s .pre .2) (s .pre .3) h d _ (c .before .before .before .before .before .before .before .before .before .before .before .before .before .before .before .before .before .start-at .ensures) _ _ (c .before .before .before .before .before .before .before .before .before .before .before .before .before .before .put-windows .ensures .0) (c .before .before .before .before .before .before .before .before .before .before .before .before .before .before .put-windows .ensures .1) in
-    let kept = done-kept _ _ _ _ _ _ _ _ d d' in
-    (
+    let kept = done-kept _ _ _ _ _ _ _ _ d d' in (
       search needs,
       λ bus r p f. done-more _ _ _ _ _ _ _ _ _ _ r p f (s .args .start .now) (s .args .end .now) _ _ _ (s .pre .2) (s .pre .3) h (i .1 bus r p f) _ (c .before .before .before .before .before .before .before .before .before .before .before .before .before .before .before .before .before .start-at .ensures) _ _ (c .before .before .before .before .before .before .before .before .before .before .before .before .before .before .put-windows .ensures .0) (c .before .before .before .before .before .before .before .before .before .before .before .before .before .before .put-windows .ensures .1),
       freed-more _ (s .args .words .now) _ _ _ kept _ _ (i .2) (room .few-cores) (c .before .free-core .ensures),
