@@ -1,6 +1,7 @@
 -- `run::run_check` meets its contract.
 use Rattle.run.proofs.Checks.{served-bad, words-bad, room-bad}
 use Prim.Native.Nat.{_-_}
+use native.Mathlib.Omega.{arith}
 use borrow.Author.Needs.{needs}
 use Rattle.run.proofs.run_check.Statement.{statement}
 use Rattle.run.proofs.run_check.Tie as tie
@@ -9,7 +10,7 @@ refuse-if-requires : tie.Need-refuse-if-requires
 refuse-if-requires c κs = search needs
 
 returns : tie.Need-returns
-returns c = served-bad _ _ _ _ _ _ (c .before .if1 .taken) (c .refuse-if .ensures)
+returns c = served-bad _ _ _ _ _ _ (omega (arith, c .before .if1 .taken)) (c .refuse-if .ensures)
 
 words-check-requires : tie.Need-words-check-requires
 words-check-requires c κs = search needs

@@ -1,6 +1,7 @@
 -- `run::words_check` meets its contract.
 use Rattle.run.proofs.Checks.{words-length, words-counts}
 use Prim.Native.Nat.{_-_}
+use native.Mathlib.Omega.{arith}
 use borrow.Author.Needs.{needs}
 use Rattle.run.proofs.words_check.Statement.{statement}
 use Rattle.run.proofs.words_check.Tie as tie
@@ -9,7 +10,7 @@ refuse-if-requires : tie.Need-refuse-if-requires
 refuse-if-requires c κs = search needs
 
 returns : tie.Need-returns
-returns c = words-length _ _ _ (c .before .if1 .taken) (c .refuse-if .ensures)
+returns c = words-length _ _ _ (λ e. omega (arith, c .before .if1 .taken)) (c .refuse-if .ensures)
 
 first-over-requires : tie.Need-first-over-requires
 first-over-requires c κs = search needs
