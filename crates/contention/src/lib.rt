@@ -2,13 +2,13 @@
 // columns: of phase x (2i the read of task i, 2i + 1 its write) its core, its window [start, end) and its words.
 ghost use mathlib.Core.Path.{_≡_};
 ghost use mathlib.Core.List.{_++_};
-ghost use Prim.Native.Nat.{ℕ, _+_, _*_, _-_, _<_, _≤_, min};
+ghost use Prim.Native.Nat.{ℕ, _+_, _*_, _-_, _<_, _≤_, min, max};
 ghost use lib.ListN.{length, drop};
-ghost use Rattle.model.specs.Below.{at, bit as bitOf, countBelow, listBelow};
+ghost use Rattle.model.specs.Below.{at, bit as bitOf, countBelow, maxBelow, listBelow};
 ghost use Rattle.model.specs.Counts.{mostWords, Settings};
 ghost use Rattle.model.specs.Contention.{moved, phaseWords, rival as rivalIn};
 ghost use Rattle.model.specs.Rules.{delayAt};
-ghost use Rattle.contention.specs.Columns.{overlapOf, rivalOf, phasesBy, rivalBy, Sized, backTo, edgesBy, Edges, raised, withEdge};
+ghost use Rattle.contention.specs.Columns.{overlapOf, rivalOf, phasesBy, Sized, backTo, closeOf, nearOf, nearBy, Spread, edgesBy, Edges, raised, withEdge};
 use model::Bus;
 use model::Time;
 use model::Words;
@@ -57,94 +57,226 @@ fn bit(b: bool) -> u32
     if b { 1 } else { 0 }
 }
 
-// 1 where phase y is a rival of the phase given, 0 where it is not.
-fn rival_at(
-    core: &[u32],
-    start: &[u32],
-    end: &[u32],
-    words: &[u32],
-    y: usize,
-    mine: u32,
-    own: u32,
-    from: u32,
-    to: u32,
-) -> u32
-    requires { ⌜ Sized (now core) (now start) (now end) (now words) (y + 1) ⌝ }
-    ensures { λ r. ⌜ r ≡ bitOf (rivalBy (now (core .entry)) (now (start .entry)) (now (end .entry)) (now (words .entry)) mine own from to y) ⌝ }
+// The first index from x on at which a column is at least `to`, `count` if there is none.
+fn ahead_to(lows: &[u32], count: usize, x: usize, to: u32) -> usize
+    requires { ⌜ (x ≤ count) × (count ≤ length (now lows)) ⌝ }
+    ensures { λ r. ⌜ (x ≤ r) × (r ≤ count) × (r < count → to ≤ at (now (lows .entry)) r) ⌝ }
 {
-    bit(rival(mine, own, from, to, core[y], words[y], start[y], end[y]))
+    let mut hi = x;
+    while hi < count {
+        if to <= lows[hi] {
+            return hi;
+        }
+        hi += 1;
+    }
+    count
 }
 
-// How many of the first `count` phases are rivals of the phase given.
-fn rivals_of(
+// Where a phase closes: at its end; at 0 without words, so that it overlaps no window.
+fn close_of(words: u32, end: u32) -> u32
+    ensures { λ r. ⌜ r ≡ closeOf words end ⌝ }
+{
+    if 0 < words { end } else { 0 }
+}
+
+fn fill_closes(end: &[u32], words: &[u32], count: usize, closes: &mut [u32])
+    requires { ⌜ (count ≤ length (now end)) × (count ≤ length (now words)) × (count ≤ length (now closes)) ⌝ }
+    ensures { λ _. ⌜ now (closes .exit) ≡ listBelow (λ y. closeOf (at (now (words .entry)) y) (at (now (end .entry)) y)) count ++ drop count (now (closes .entry)) ⌝ }
+{
+    for y in 0..count {
+        closes[y] = close_of(words[y], end[y]);
+    }
+}
+
+fn later(x: u32, y: u32) -> u32
+    ensures { λ r. ⌜ r ≡ max x y ⌝ }
+{
+    if x < y { y } else { x }
+}
+
+// The greatest close before each phase.
+fn fill_tops(closes: &[u32], count: usize, tops: &mut [u32])
+    requires { ⌜ (count ≤ length (now closes)) × (count ≤ length (now tops)) ⌝ }
+    ensures { λ _. ⌜ now (tops .exit) ≡ listBelow (maxBelow (at (now (closes .entry)))) count ++ drop count (now (tops .entry)) ⌝ }
+{
+    let mut most: u32 = 0;
+    for y in 0..count {
+        tops[y] = most;
+        most = later(most, closes[y]);
+    }
+}
+
+// The least start so far, with that of one more phase if it has words.
+fn earlier(least: u32, start: u32, close: u32) -> u32
+    ensures { λ r. ⌜ (r ≤ least) × (0 < close → r ≤ start) ⌝ }
+{
+    if close == 0 {
+        return least;
+    }
+    if start < least { start } else { least }
+}
+
+// The least start from each phase on, of those with words: from behind.
+fn fill_lows(start: &[u32], closes: &[u32], count: usize, lows: &mut [u32])
+    requires { ⌜ (count ≤ length (now start)) × (count ≤ length (now closes)) × (count ≤ length (now lows)) ⌝ }
+    ensures { λ _. ⌜ ((y z : ℕ) → y ≤ z → z < count → 0 < at (now (closes .entry)) z → at (now (lows .exit)) y ≤ at (now (start .entry)) z) ⌝ }
+{
+    let mut least: u32 = 4294967295;
+    let mut y = count;
+    while 0 < y {
+        y -= 1;
+        least = earlier(least, start[y], closes[y]);
+        lows[y] = least;
+    }
+}
+
+// A phase with its core, its start and its close is on another core than `mine` and overlaps the window [from, to).
+fn near(mine: u32, from: u32, to: u32, core: u32, start: u32, close: u32) -> bool
+    ensures { λ r. ⌜ r ≡ nearOf mine from to core start close ⌝ }
+{
+    (mine != core) & ((from < close) & (start < to))
+}
+
+fn near_at(
     core: &[u32],
     start: &[u32],
-    end: &[u32],
-    words: &[u32],
-    count: usize,
+    closes: &[u32],
+    y: usize,
     mine: u32,
-    own: u32,
     from: u32,
     to: u32,
 ) -> u32
-    requires { ⌜ Sized (now core) (now start) (now end) (now words) count ⌝ }
-    ensures { λ r. ⌜ r ≡ countBelow (rivalBy (now (core .entry)) (now (start .entry)) (now (end .entry)) (now (words .entry)) mine own from to) count ⌝ }
+    requires { ⌜ (y < length (now core)) × (y < length (now start)) × (y < length (now closes)) ⌝ }
+    ensures { λ r. ⌜ r ≡ bitOf (nearBy (now (core .entry)) (now (start .entry)) (now (closes .entry)) mine from to y) ⌝ }
+{
+    bit(near(mine, from, to, core[y], start[y], closes[y]))
+}
+
+// How many phases from lo on and before hi are on another core than `mine` and overlap the window [from, to).
+fn near_between(
+    core: &[u32],
+    start: &[u32],
+    closes: &[u32],
+    lo: usize,
+    hi: usize,
+    mine: u32,
+    from: u32,
+    to: u32,
+) -> u32
+    requires { ⌜ (lo ≤ hi) × (hi ≤ 128) × (hi ≤ length (now core)) × (hi ≤ length (now start)) × (hi ≤ length (now closes)) ⌝ }
+    ensures { λ r. ⌜ r + countBelow (nearBy (now (core .entry)) (now (start .entry)) (now (closes .entry)) mine from to) lo ≡ countBelow (nearBy (now (core .entry)) (now (start .entry)) (now (closes .entry)) mine from to) hi ⌝ }
 {
     let mut n: u32 = 0;
-    let mut y: usize = 0;
-    while y < count {
-        n += rival_at(core, start, end, words, y, mine, own, from, to);
+    let mut y = lo;
+    while y < hi {
+        n += near_at(core, start, closes, y, mine, from, to);
         y += 1;
     }
     n
 }
 
-// The rivals of phase x among the first `count`, at most `most`.
-pub fn count_rivals(
+// The rivals of phase x, which has words, among the first `count`, at most `most`: counted where what overlaps can lie.
+fn count_rivals(
     core: &[u32],
     start: &[u32],
     end: &[u32],
     words: &[u32],
+    closes: &[u32],
+    tops: &[u32],
+    lows: &[u32],
     count: usize,
     x: usize,
     most: u32,
 ) -> u32
-    requires { ⌜ Sized (now core) (now start) (now end) (now words) count × (x < count) ⌝ }
+    requires { ⌜ Sized (now core) (now start) (now end) (now words) count × Spread (now start) (now end) (now words) count (now closes) (now tops) (now lows) × (x < count) × (0 < at (now words) x) ⌝ }
     ensures { λ r. ⌜ r ≡ min (countBelow (rivalIn (phasesBy (now (core .entry)) (now (start .entry)) (now (end .entry)) (now (words .entry)) count) x) count) most ⌝ }
 {
-    let n = rivals_of(
-        core,
-        start,
-        end,
-        words,
-        count,
-        core[x],
-        words[x],
-        start[x],
-        end[x],
-    );
+    let from = start[x];
+    let to = end[x];
+    let lo = back_to(tops, x, from);
+    let hi = ahead_to(lows, count, x, to);
+    let n = near_between(core, start, closes, lo, hi, core[x], from, to);
     if n < most { n } else { most }
 }
 
 // The delay of phase x with its counted rivals.
-pub fn phase_delay(
+fn phase_delay(
     bus: Bus,
     core: &[u32],
     start: &[u32],
     end: &[u32],
     words: &[u32],
+    closes: &[u32],
+    tops: &[u32],
+    lows: &[u32],
     count: usize,
     x: usize,
 ) -> Time
-    requires { ⌜ Settings bus × Sized (now core) (now start) (now end) (now words) count × (x < count) × (at (now words) x ≤ mostWords) ⌝ }
+    requires { ⌜ Settings bus × Sized (now core) (now start) (now end) (now words) count × Spread (now start) (now end) (now words) count (now closes) (now tops) (now lows) × (x < count) × (at (now words) x ≤ mostWords) ⌝ }
     ensures { λ r. ⌜ r .0 ≡ delayAt bus (phasesBy (now (core .entry)) (now (start .entry)) (now (end .entry)) (now (words .entry)) count) x ⌝ }
 {
     let own = words[x];
     if own == 0 {
         return Time(0);
     }
-    let rivals = count_rivals(core, start, end, words, count, x, bus.cores - 1);
+    let most = bus.cores - 1;
+    let rivals = count_rivals(core, start, end, words, closes, tops, lows, count, x, most);
     model::delay(bus, Words(own), rivals)
+}
+
+fn fill_delays(
+    bus: Bus,
+    core: &[u32],
+    start: &[u32],
+    end: &[u32],
+    words: &[u32],
+    closes: &[u32],
+    tops: &[u32],
+    lows: &[u32],
+    count: usize,
+    delays: &mut [u32],
+)
+    requires { ⌜ Settings bus × Sized (now core) (now start) (now end) (now words) count × Spread (now start) (now end) (now words) count (now closes) (now tops) (now lows) × ((x : ℕ) → x < count → at (now words) x ≤ mostWords) × (count ≤ length (now delays)) ⌝ }
+    ensures { λ _. ⌜ now (delays .exit) ≡ listBelow (delayAt bus (phasesBy (now (core .entry)) (now (start .entry)) (now (end .entry)) (now (words .entry)) count)) count ++ drop count (now (delays .entry)) ⌝ }
+{
+    for x in 0..count {
+        let delay = phase_delay(bus, core, start, end, words, closes, tops, lows, count, x);
+        delays[x] = delay.0;
+    }
+}
+
+// The delay of each of the first `count` phases with its counted rivals. Almost all phases are far away in time, so those that
+// can overlap a window are found first.
+pub fn phase_delays(
+    bus: Bus,
+    core: &[u32],
+    start: &[u32],
+    end: &[u32],
+    words: &[u32],
+    count: usize,
+    delays: &mut [u32],
+)
+    requires { ⌜ Settings bus × Sized (now core) (now start) (now end) (now words) count × ((x : ℕ) → x < count → at (now words) x ≤ mostWords) × (count ≤ length (now delays)) ⌝ }
+    ensures { λ _. ⌜ now (delays .exit) ≡ listBelow (delayAt bus (phasesBy (now (core .entry)) (now (start .entry)) (now (end .entry)) (now (words .entry)) count)) count ++ drop count (now (delays .entry)) ⌝ }
+{
+    let mut closes = [0u32; 128];
+    let mut tops = [0u32; 128];
+    let mut lows = [0u32; 128];
+    fill_closes(end, words, count, &mut closes);
+    fill_tops(&closes, count, &mut tops);
+    fill_lows(start, &closes, count, &mut lows);
+    fill_delays(
+        bus,
+        core,
+        start,
+        end,
+        words,
+        &closes,
+        &tops,
+        &lows,
+        count,
+        delays,
+    );
 }
 
 // `moved` words more for the read of task `to` and the write of task `from`.
