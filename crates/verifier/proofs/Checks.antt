@@ -1,15 +1,15 @@
 -- What each check found is the definition's check of that task, edge, pair or phase. Assumes nothing.
 use mathlib.Core.Path.{_≡_, refl, sym, ap, _∙_}
 use mathlib.Core.Bool.{Bool, true, false, _&&_}
-use mathlib.Core.List.{List}
+use mathlib.Core.List.{List, _++_}
 use Prim.Native.Nat.{ℕ, _+_, _*_, _/_, _≤_, _<_, min, max}
 use native.Mathlib.Omega.{arith}
 use lib.Dec.{ltb, eqb}
+use lib.ListN.{length, drop}
 use borrow.Author.Tests.{lt-ltb, le-ltb}
-use Rattle.model.specs.Below.{at}
-use Rattle.model.specs.Refusals.{refusal, refuseIf, firstBad}
+use Rattle.model.specs.Below.{at, listBelow}
+use Rattle.model.specs.Refusals.{refusal, refuseIf, orElse, firstBad}
 use Rattle.model.specs.Table.{Table, ofNumbers}
-use Rattle.model.specs.Contention.{Phases}
 use Rattle.model.specs.Rules.{delayAt, executeAt, edgeAt, crossing, crossAt, windowAt}
 use Rattle.model.specs.declared.Bus.{Bus}
 use Rattle.model.specs.declared.Fault.{Fault}
@@ -17,9 +17,12 @@ use Rattle.model.specs.declared.Fault.the-variants.{ExecuteShort, ReadEarly, Sp
 use Rattle.model.specs.declared.Side.the-variants.{OfTable}
 use Rattle.model.specs.declared.Check.{Check}
 use Rattle.model.specs.declared.Check.the-variants.{Good, Bad}
+use Rattle.contention.specs.Columns.{phasesBy}
+use Rattle.contention.proofs.Columns.{is-column}
+use Rattle.model.proofs.Below.{join-cong}
 use Rattle.model.proofs.Refusals.{first-all}
 use Rattle.model.proofs.Rules.{apart-good}
-use Rattle.verifier.specs.Columns.{tasksBy, edgesOf}
+use Rattle.verifier.specs.Columns.{tasksBy, edgesOf, lastsAt}
 
 pub refuse-yes : (b : Bool) (fault : Fault) (i : ℕ) → b ≡ true → Bad (record { fault = fault; side = OfTable; place = 20 * i }) ≡ refuseIf b (record { fault = fault; side = OfTable; place = 20 * i })
 refuse-yes true fault i e = refl
@@ -52,7 +55,16 @@ pair-is t i j core r f x l a b c q = rw (lt-ltb i j l) (rw (a, b, c) at q)
 pub pairs-none : (t : Table) (i : ℕ) → firstBad (crossAt t i) (i + 1) ≡ Good
 pairs-none t i = first-all (crossAt t i) (i + 1) (λ j l. apart-good t i j (λ k. absurd (omega arith)))
 
-pub window-is : (b : Bus) (h : Phases) (x start end delay : ℕ) (c : Check) → start ≡ h .start x → end ≡ h .end x → delay ≡ delayAt b h x
-    → c ≡ refuseIf (ltb end (start + delay)) (refusal WindowShort OfTable (20 * (x / 2))) → c ≡ windowAt b h x
-unfolding windowAt
-window-is b h x start end delay c p q d e = rw (p, q, d) at e
+pub lasts-is : (start end delays : List ℕ) (x s e d : ℕ) (c : Check) → s ≡ at start x → e ≡ at end x → d ≡ at delays x
+    → c ≡ refuseIf (ltb e (s + d)) (refusal WindowShort OfTable (20 * (x / 2))) → c ≡ lastsAt start end delays x
+unfolding lastsAt
+lasts-is start end delays x s e d c p q r w = rw (p, q, r) at w
+
+-- with the delays of the phases it is what the rule asks of each
+pub lasts-each : (b : Bus) (core start end words delays rest : List ℕ) (n : ℕ) → n ≤ length rest
+    → delays ≡ listBelow (delayAt b (phasesBy core start end words n)) n ++ drop n rest
+    → firstBad (lastsAt start end delays) n ≡ firstBad (windowAt b (phasesBy core start end words n)) n
+unfolding lastsAt windowAt
+lasts-each b core start end words delays rest n l e =
+    let due = is-column (delayAt b (phasesBy core start end words n)) n rest l delays e in
+    join-cong orElse Good _ _ n (λ x k. rw (due .each x k))

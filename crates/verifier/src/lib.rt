@@ -12,7 +12,7 @@ ghost use Rattle.model.specs.Contention.{ofPhase, phaseWords};
 ghost use Rattle.model.specs.Rules.{executeAt, edgeAt, crossing, crossAt, windowAt, makespan as greatestEnd};
 ghost use Rattle.model.specs.Answers.{verdictOf};
 ghost use Rattle.contention.specs.Columns.{phasesBy, coreColumn, startColumn, endColumn, Sized, edgesBy, Edges};
-ghost use Rattle.verifier.specs.Columns.{tasksBy, edgesOf, shapeBy, planBy, Between};
+ghost use Rattle.verifier.specs.Columns.{tasksBy, edgesOf, shapeBy, planBy, Between, lastsAt};
 ghost use Rattle.verifier.specs.Judging.{spansCheck, ruled, judgementOf, columnOf, phaseCores, phaseStarts, phaseEnds, phaseLoads};
 use model::Bus;
 use model::Check;
@@ -157,34 +157,34 @@ fn crosses(table: &[u32], tasks: usize) -> Check
 }
 
 // 15: the window of phase x lasts at least its delay.
-fn window_at(
-    bus: Bus,
-    core: &[u32],
-    start: &[u32],
-    end: &[u32],
-    words: &[u32],
-    count: usize,
-    x: usize,
-) -> Check
-    requires { ⌜ Settings bus × Sized (now core) (now start) (now end) (now words) count × (x < count) × (at (now words) x ≤ mostWords) ⌝ }
-    ensures { λ r. ⌜ r ≡ windowAt bus (phasesBy (now (core .entry)) (now (start .entry)) (now (end .entry)) (now (words .entry)) count) x ⌝ }
+fn window_at(start: &[u32], end: &[u32], delays: &[u32], x: usize) -> Check
+    requires { ⌜ (x < length (now start)) × (x < length (now end)) × (x < length (now delays)) × (x < 128) ⌝ }
+    ensures { λ r. ⌜ r ≡ lastsAt (now (start .entry)) (now (end .entry)) (now (delays .entry)) x ⌝ }
 {
-    let delay = contention::phase_delay(bus, core, start, end, words, count, x);
-    let due = wide(start[x]) + wide(delay.0);
+    let due = wide(start[x]) + wide(delays[x]);
     refuse_if(wide(end[x]) < due, Fault::WindowShort, x / 2)
+}
+
+fn each_window(start: &[u32], end: &[u32], delays: &[u32], count: usize) -> Check
+    requires { ⌜ (count ≤ length (now start)) × (count ≤ length (now end)) × (count ≤ length (now delays)) × (count ≤ 128) ⌝ }
+    ensures { λ r. ⌜ r ≡ firstBad (lastsAt (now (start .entry)) (now (end .entry)) (now (delays .entry))) count ⌝ }
+{
+    for x in 0..count {
+        let found = window_at(start, end, delays, x);
+        if let Check::Bad(r) = found {
+            return Check::Bad(r);
+        }
+    }
+    Check::Good
 }
 
 fn windows(bus: Bus, core: &[u32], start: &[u32], end: &[u32], words: &[u32], count: usize) -> Check
     requires { ⌜ Settings bus × Sized (now core) (now start) (now end) (now words) count × ((x : ℕ) → x < count → at (now words) x ≤ mostWords) ⌝ }
     ensures { λ r. ⌜ r ≡ firstBad (windowAt bus (phasesBy (now (core .entry)) (now (start .entry)) (now (end .entry)) (now (words .entry)) count)) count ⌝ }
 {
-    for x in 0..count {
-        let found = window_at(bus, core, start, end, words, count, x);
-        if let Check::Bad(r) = found {
-            return Check::Bad(r);
-        }
-    }
-    Check::Good
+    let mut delays = [0u32; 128];
+    contention::phase_delays(bus, core, start, end, words, count, &mut delays);
+    each_window(start, end, &delays, count)
 }
 
 // The greatest end.

@@ -1,65 +1,34 @@
--- `verifier::windows` meets its contract. A loop over a check.
-use Rattle.contention.specs.Columns.{phasesBy}
-use Rattle.model.specs.Rules.{windowAt}
-use Rattle.model.proofs.Refusals.{first-good, first-bad, first-end}
-use Rattle.model.specs.declared.Check.the-variants.{Good}
-use Rattle.model.specs.Refusals.{firstBad}
-use Rattle.model.specs.Below.{joinBelow}
-use Prim.Native.Nat.{_≤_, _-_}
-use mathlib.Core.Path.{_≡_, sym}
-use native.Mathlib.Omega.{arith}
+-- `verifier::windows` meets its contract. Each window by its delay.
+use mathlib.Core.Path.{_∙_}
+use Rattle.verifier.proofs.Checks.{lasts-each}
 use borrow.Author.Needs.{needs}
 use Rattle.verifier.proofs.windows.Statement.{statement}
 use Rattle.verifier.proofs.windows.Tie as tie
 
-abbrev Inv-loop : tie.InvT-loop
-Inv-loop bus core start end words count x₀ x = (x ≤ count) × (firstBad (windowAt bus (phasesBy core start end words count)) x ≡ Good)
+slice-aggregate-phase-delays : tie.Need-slice-aggregate-phase-delays
+slice-aggregate-phase-delays c = search needs
 
-abbrev μ-loop : tie.MeasureT-loop
-μ-loop bus core start end words count x₀ x = count - x
+phase-delays-requires : tie.Need-phase-delays-requires
+phase-delays-requires c κs = search needs
 
-loop-holds : tie.Need-loop-holds Inv-loop μ-loop
-unfolding joinBelow
-loop-holds c = search needs
+slice-aggregate-each-window : tie.Need-slice-aggregate-each-window
+slice-aggregate-each-window c = search needs
 
-window-at-requires : tie.Need-window-at-requires Inv-loop μ-loop
-window-at-requires c κs =
-    let s = c .before .before .before .before .before .before in
-    (s .pre .0, s .pre .1, c .loop-test .taken, s .pre .2 _ (c .loop-test .taken))
+each-window-requires : tie.Need-each-window-requires
+each-window-requires c κs = search needs
 
-enum-known-found : tie.Need-enum-known-found Inv-loop μ-loop
-enum-known-found c = search needs
-
-returns : tie.Need-returns Inv-loop μ-loop
-returns c = first-bad _ _ _ _ (c .before .before .before .before .before .loop .inv .1) (c .before .before .before .before .loop-test .taken) (c .before .before .before .window-at .ensures) (c .before .found .given .1)
-
-enum-told : tie.Need-enum-told Inv-loop μ-loop
-enum-told c = search needs
-
-add-x : tie.Need-add-x Inv-loop μ-loop
-add-x c = search needs
-
-loop-less : tie.Need-loop-less Inv-loop μ-loop
-loop-less c = search needs
-
-loop-again : tie.Need-loop-again Inv-loop μ-loop
-loop-again c = (search needs, first-good _ _ _ (c .before .before .before .before .loop .inv .1) (c .before .before .window-at .ensures) (c .enum-told .given .1))
-
-returns-2 : tie.Need-returns-2 Inv-loop μ-loop
-returns-2 c = first-end _ _ _ (c .before .loop .inv .0) (c .loop-test .left) (c .before .loop .inv .1)
+returns : tie.Need-returns
+returns c =
+    let s = c .before .before .before .before .before .before .before .before .before in
+    let a = s .args in
+    c .each-window .ensures ∙ lasts-each (a .bus) (a .core .now) (a .start .now) (a .end .now) (a .words .now) _ _ (a .count) (s .pre .1 .few) (c .before .before .before .phase-delays .ensures)
 
 pub windows-spec : {M : Type 1} → statement M
 windows-spec =
     tie.close
     (tie.spec
-    Inv-loop
-    μ-loop
-    loop-holds
-    window-at-requires
-    enum-known-found
-    returns
-    enum-told
-    add-x
-    loop-less
-    loop-again
-    returns-2)
+    slice-aggregate-phase-delays
+    phase-delays-requires
+    slice-aggregate-each-window
+    each-window-requires
+    returns)
