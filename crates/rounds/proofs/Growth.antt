@@ -10,20 +10,20 @@ use lib.Seq.{set-getD}
 use lib.Dec.{ltb}
 use borrow.Author.Tests.{lt-ltb, le-ltb}
 use Rattle.model.specs.Below.{at, anyBelow, listBelow}
-use Rattle.model.proofs.Below.{join-step, fill-step}
+use Rattle.model.proofs.Below.{join-step, any-same, list-same, fill-step}
 use Rattle.contention.proofs.Columns.{is-column}
 
 -- ---- one window, with its delay d
-module _ (old : List ℕ) (x d due : ℕ) (q : due ≡ d) where
-  pub grew-yes : at old x < due → (true ≡ ltb (at old x) d) × (set old x due ≡ set old x (max (at old x) d))
+module _ (old : List ℕ) (x d : ℕ) where
+  pub grew-yes : at old x < d → (true ≡ ltb (at old x) d) × (set old x d ≡ set old x (max (at old x) d))
   grew-yes l =
-      let e : due ≡ max (at old x) d = omega arith in
-      (sym (lt-ltb (at old x) d (omega arith)), ap (set old x) e)
+      let e : d ≡ max (at old x) d = omega arith in
+      (sym (lt-ltb (at old x) d l), ap (set old x) e)
 
-  pub grew-no : due ≤ at old x → (false ≡ ltb (at old x) d) × (old ≡ set old x (max (at old x) d))
+  pub grew-no : d ≤ at old x → (false ≡ ltb (at old x) d) × (old ≡ set old x (max (at old x) d))
   grew-no l =
       let e : at old x ≡ max (at old x) d = omega arith in
-      (sym (le-ltb (at old x) d (omega arith)), sym (ap (set old x) (sym e) ∙ set-getD old x 0))
+      (sym (le-ltb (at old x) d l), sym (ap (set old x) (sym e) ∙ set-getD old x 0))
 
 -- ---- all windows in turn: those not passed are as they were
 module _ (delays : ℕ → ℕ) (old new : List ℕ) (x : ℕ) (h : x < length old)
@@ -41,3 +41,13 @@ module _ (delays : ℕ → ℕ) (old new : List ℕ) (x : ℕ) (h : x < length o
       (b r : Bool) → b ≡ anyBelow (λ y. ltb (at old y) (delays y)) x → r ≡ ltb (at new x) (delays x)
       → (b || r) ≡ anyBelow (λ y. ltb (at old y) (delays y)) (x + 1)
   grew-more b r q g = rw (q, g, here, join-step)
+
+-- ---- the delays are those of a column
+pub grown-due :
+    (delays : ℕ → ℕ) (n : ℕ) (old due rest : List ℕ) → n ≤ length rest → due ≡ listBelow delays n ++ drop n rest
+    → (grew : Bool) (new : List ℕ)
+    → (grew ≡ anyBelow (λ y. ltb (at old y) (at due y)) n) × (new ≡ listBelow (λ y. max (at old y) (at due y)) n ++ drop n old)
+    → (grew ≡ anyBelow (λ y. ltb (at old y) (delays y)) n) × (new ≡ listBelow (λ y. max (at old y) (delays y)) n ++ drop n old)
+grown-due delays n old due rest l e grew new g =
+    let column = is-column delays n rest l due e in
+    (g .0 ∙ any-same (λ y. ltb (at old y) (at due y)) (λ y. ltb (at old y) (delays y)) n (λ y k. ap (ltb (at old y)) (column .each y k)), g .1 ∙ ap (λ (l : List ℕ). l ++ drop n old) (list-same (λ y. max (at old y) (at due y)) (λ y. max (at old y) (delays y)) n (λ y k. ap (max (at old y)) (column .each y k))))

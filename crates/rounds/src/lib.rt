@@ -64,26 +64,28 @@ fn first_lengths(bus: Bus, words: &[u32], count: usize, lengths: &mut [u32])
 }
 
 // A window shorter than its delay takes that delay. Answers whether it grew.
-fn grow_at(
-    bus: Bus,
-    core: &[u32],
-    start: &[u32],
-    end: &[u32],
-    words: &[u32],
-    count: usize,
-    x: usize,
-    lengths: &mut [u32],
-) -> bool
-    requires { ⌜ Settings bus × Sized (now core) (now start) (now end) (now words) count × (x < count) × (at (now words) x ≤ mostWords) × (x < length (now lengths)) ⌝ }
-    ensures { λ r. ⌜ (r ≡ ltb (at (now (lengths .entry)) x) (delayAt bus (phasesBy (now (core .entry)) (now (start .entry)) (now (end .entry)) (now (words .entry)) count) x)) × (now (lengths .exit) ≡ set (now (lengths .entry)) x (max (at (now (lengths .entry)) x) (delayAt bus (phasesBy (now (core .entry)) (now (start .entry)) (now (end .entry)) (now (words .entry)) count) x))) ⌝ }
+fn grow_at(due: &[u32], x: usize, lengths: &mut [u32]) -> bool
+    requires { ⌜ (x < length (now due)) × (x < length (now lengths)) ⌝ }
+    ensures { λ r. ⌜ (r ≡ ltb (at (now (lengths .entry)) x) (at (now (due .entry)) x)) × (now (lengths .exit) ≡ set (now (lengths .entry)) x (max (at (now (lengths .entry)) x) (at (now (due .entry)) x))) ⌝ }
 {
-    let delay = contention::phase_delay(bus, core, start, end, words, count, x);
-    let due = delay.0;
-    if lengths[x] < due {
-        lengths[x] = due;
+    let delay = due[x];
+    if lengths[x] < delay {
+        lengths[x] = delay;
         return true;
     }
     false
+}
+
+// All windows shorter than their delays take them. Answers whether one grew.
+fn grow_all(due: &[u32], count: usize, lengths: &mut [u32]) -> bool
+    requires { ⌜ (count ≤ length (now due)) × (count ≤ length (now lengths)) ⌝ }
+    ensures { λ r. ⌜ (r ≡ anyBelow (λ x. ltb (at (now (lengths .entry)) x) (at (now (due .entry)) x)) count) × (now (lengths .exit) ≡ listBelow (λ x. max (at (now (lengths .entry)) x) (at (now (due .entry)) x)) count ++ drop count (now (lengths .entry))) ⌝ }
+{
+    let mut grew = false;
+    for x in 0..count {
+        grew = grew | grow_at(due, x, lengths);
+    }
+    grew
 }
 
 // Step 3: rivals are counted on the windows as they stand, and all short windows grow. Answers whether one grew.
@@ -99,11 +101,9 @@ fn grow(
     requires { ⌜ Settings bus × Sized (now core) (now start) (now end) (now words) count × ((x : ℕ) → x < count → at (now words) x ≤ mostWords) × (count ≤ length (now lengths)) ⌝ }
     ensures { λ r. ⌜ (r ≡ anyBelow (λ x. ltb (at (now (lengths .entry)) x) (delayAt bus (phasesBy (now (core .entry)) (now (start .entry)) (now (end .entry)) (now (words .entry)) count) x)) count) × (now (lengths .exit) ≡ listBelow (λ x. max (at (now (lengths .entry)) x) (delayAt bus (phasesBy (now (core .entry)) (now (start .entry)) (now (end .entry)) (now (words .entry)) count) x)) count ++ drop count (now (lengths .entry))) ⌝ }
 {
-    let mut grew = false;
-    for x in 0..count {
-        grew = grew | grow_at(bus, core, start, end, words, count, x, lengths);
-    }
-    grew
+    let mut due = [0u32; 128];
+    contention::phase_delays(bus, core, start, end, words, count, &mut due);
+    grow_all(&due, count, lengths)
 }
 
 // So many rounds settle a candidate: each that grows a window charges it for a rival more.

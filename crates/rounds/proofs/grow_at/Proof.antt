@@ -1,12 +1,15 @@
 -- `rounds::grow_at` meets its contract. By the test: the greater of both.
+use Rattle.model.specs.Below.{at}
 use Rattle.rounds.proofs.Growth.{grew-yes, grew-no}
-use native.Mathlib.Omega.{arith}
 use borrow.Author.Needs.{needs}
 use Rattle.rounds.proofs.grow_at.Statement.{statement}
 use Rattle.rounds.proofs.grow_at.Tie as tie
 
-phase-delay-requires : tie.Need-phase-delay-requires
-phase-delay-requires c κs = search needs
+mul-delay : tie.Need-mul-delay
+mul-delay c = search needs
+
+shared-slice-read-delay : tie.Need-shared-slice-read-delay
+shared-slice-read-delay c = search needs
 
 mul-if1 : tie.Need-mul-if1
 mul-if1 c = search needs
@@ -24,16 +27,17 @@ same-length : tie.Need-same-length
 same-length c = search needs
 
 returns : tie.Need-returns
-returns c = let s = c .before .before .before .before .before .before .before .before .args in grew-yes (s .lengths .now) (s .x) _ _ (c .before .before .phase-delay .ensures) (c .if1 .taken)
+returns c = let a = c .before .before .before .args in grew-yes (a .lengths .now) (a .x) (at (a .due .now) (a .x)) (c .if1 .taken)
 
 returns-2 : tie.Need-returns-2
-returns-2 c = let s = c .before .before .before .before .before .before .before .before .args in grew-no (s .lengths .now) (s .x) _ _ (c .before .before .phase-delay .ensures) (c .if1 .left)
+returns-2 c = let a = c .before .before .before .args in grew-no (a .lengths .now) (a .x) (at (a .due .now) (a .x)) (c .if1 .left)
 
 pub grow-at-spec : {M : Type 1} → statement M
 grow-at-spec =
     tie.close
     (tie.spec
-    phase-delay-requires
+    mul-delay
+    shared-slice-read-delay
     mul-if1
     slice-read-if1
     mul-lengths
