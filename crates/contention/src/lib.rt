@@ -8,33 +8,10 @@ ghost use Rattle.model.specs.Below.{at, bit as bitOf, countBelow, maxBelow, lis
 ghost use Rattle.model.specs.Counts.{mostWords, Settings};
 ghost use Rattle.model.specs.Contention.{moved, phaseWords, rival as rivalIn};
 ghost use Rattle.model.specs.Rules.{delayAt};
-ghost use Rattle.contention.specs.Columns.{overlapOf, rivalOf, phasesBy, Sized, backTo, closeOf, nearOf, nearBy, Spread, edgesBy, Edges, raised, withEdge};
+ghost use Rattle.contention.specs.Columns.{phasesBy, Sized, backTo, closeOf, nearOf, nearBy, Spread, edgesBy, Edges, raised, withEdge};
 use model::Bus;
 use model::Time;
 use model::Words;
-
-// Two phases overlap: both carry words, and each starts before the other ends.
-pub fn overlap(words: u32, start: u32, end: u32, others: u32, from: u32, to: u32) -> bool
-    ensures { λ r. ⌜ r ≡ overlapOf words start end others from to ⌝ }
-{
-    ((0 < words) & (0 < others)) & ((start < to) & (from < end))
-}
-
-// The second of two phases is a rival of the first: on another core, and they overlap.
-pub fn rival(
-    mine: u32,
-    words: u32,
-    start: u32,
-    end: u32,
-    core: u32,
-    others: u32,
-    from: u32,
-    to: u32,
-) -> bool
-    ensures { λ r. ⌜ r ≡ rivalOf mine words start end core others from to ⌝ }
-{
-    (mine != core) & overlap(words, start, end, others, from, to)
-}
 
 // The last index at or before x whose entry is at most `from`, 0 if there is none.
 pub fn back_to(tops: &[u32], x: usize, from: u32) -> usize
@@ -73,7 +50,7 @@ fn ahead_to(lows: &[u32], count: usize, x: usize, to: u32) -> usize
 }
 
 // Where a phase closes: at its end; at 0 without words, so that it overlaps no window.
-fn close_of(words: u32, end: u32) -> u32
+pub fn close_of(words: u32, end: u32) -> u32
     ensures { λ r. ⌜ r ≡ closeOf words end ⌝ }
 {
     if 0 < words { end } else { 0 }
@@ -131,7 +108,7 @@ fn fill_lows(start: &[u32], closes: &[u32], count: usize, lows: &mut [u32])
 }
 
 // A phase with its core, its start and its close is on another core than `mine` and overlaps the window [from, to).
-fn near(mine: u32, from: u32, to: u32, core: u32, start: u32, close: u32) -> bool
+pub fn near(mine: u32, from: u32, to: u32, core: u32, start: u32, close: u32) -> bool
     ensures { λ r. ⌜ r ≡ nearOf mine from to core start close ⌝ }
 {
     (mine != core) & ((from < close) & (start < to))

@@ -9,7 +9,7 @@ use native.Mathlib.Omega.{arith}
 use lib.ListN.{length, take, drop, set, replicate, length-set, length-replicate}
 use lib.Seq.{getD-take, getD-set-same, getD-set-other}
 use lib.Dec.{ltb, eqb}
-use borrow.Author.Tests.{eqb-true, eq-eqb, ne-eqb, lt-ltb, le-ltb, ltb-true}
+use borrow.Author.Tests.{eqb-true, eq-eqb, ne-eqb, le-ltb, ltb-false}
 use Rattle.model.specs.Below.{at, joinBelow, maxBelow, anyBelow}
 use Rattle.model.specs.Plan.{tasks, cost}
 use Rattle.model.specs.Table.{Table}
@@ -17,39 +17,37 @@ use Rattle.model.specs.Contention.{Phases, ofPhase, phasesIn}
 use Rattle.model.specs.Rules.{makespan}
 use Rattle.model.specs.ListRule.{Candidate, coreIn, exclusive, windows, isSource, earliest, LeastFree, startOf, startsOf, placed}
 use Rattle.model.specs.declared.Bus.{Bus}
-use Rattle.model.proofs.Tests.{either, conflict, same-or-not, cond-le, and-no, and-true, and-both, or-left, or-right}
+use Rattle.model.proofs.Tests.{either, lt-or-ge, conflict, same-or-not, cond-le, and-no, and-true, and-both, or-left, or-right}
 use Rattle.model.proofs.Below.{max-ge, max-le, max-same, max-mono, join-step, any-same, any-here, any-found}
 use Rattle.model.proofs.Contention.{half-even, half-odd, of-even, of-odd}
 use Rattle.model.proofs.Placing.{meets, clashing, end-within, overlapping-start, exclusive-start, starts-length, starts-stay, placed-start, placed-top, placed-within}
 use Rattle.model.proofs.Spans.{Limits, room-within}
-use Rattle.contention.specs.Columns.{overlapOf, rivalOf, rivalBy, Sized, startColumn, endColumn, backTo}
-use Rattle.contention.proofs.Ranges.{back-le, back-over}
+use Rattle.contention.specs.Columns.{overlapOf, rivalOf, rivalBy, Sized, startColumn, endColumn, backTo, closeOf, nearBy}
+use Rattle.contention.proofs.Ranges.{back-le, back-over, near-rival}
 use Rattle.contention.proofs.Columns.{Column, column-is}
 use Rattle.placing.specs.Candidates.{planBy, candidateBy, Ready, FewCores}
 use Rattle.placing.specs.Starts.{freeBy, sentBy, earliestBy, Freed, closeBy, Closed, Task, taskAt, clashBy, Starts, Room, Prepared}
 
-close-cong : (words end end' : List ℕ) (y : ℕ) → at end y ≡ at end' y → closeBy words end y ≡ closeBy words end' y
-unfolding closeBy
-close-cong words end end' y e = rw e
+-- ---- phases that are closed are met as before
+close-self : (x : ℕ) → x ≡ closeOf x x
+unfolding closeOf
+close-self x = either (ltb 0 x) (λ t. rw t) (λ t. rw t (omega (arith, ltb-false 0 x t)))
 
--- ---- a phase without words, closed, is met by no window; one with words as before
-close-same :
-    (own w from to s e : ℕ) → overlapOf own from to (cond (ltb 0 w) e 0) s (cond (ltb 0 w) e 0) ≡ overlapOf own from to w s e
-unfolding overlapOf
-close-same own w from to s e =
-    either (ltb 0 w)
-    (λ t.
-    either (ltb from e)
-    (λ u. rw (t, u, lt-ltb 0 e (omega (arith, ltb-true from e u))))
-    (λ u. rw (t, u) (and-no (ltb 0 own && ltb 0 e) ∙ sym (and-no (ltb 0 own && true)))))
-    (λ t. rw (t, le-ltb 0 0 (omega arith), and-no (ltb 0 own)))
+module _ (core start closes : List ℕ) (y mine own from to : ℕ) where
+  pub near-met : 0 < own → nearBy core start closes mine from to y ≡ rivalBy core start closes closes mine own from to y
+  near-met h = near-rival core start closes mine from to y closes closes own h (close-self (at closes y))
 
-meet-closed :
-    (core start end words closes : List ℕ) (y : ℕ) → at closes y ≡ closeBy words end y
-    → (mine own from to : ℕ) → rivalBy core start closes closes mine own from to y ≡ rivalBy core start end words mine own from to y
-unfolding rivalBy rivalOf closeBy
-meet-closed core start end words closes y e mine own from to =
-    rw e (ap (λ (b : Bool). not (eqb mine (at core y)) && b) (close-same own (at words y) from to (at start y) (at end y)))
+  idle-meets : (end words : List ℕ) → own ≡ 0 → rivalBy core start end words mine own from to y ≡ false
+  unfolding rivalBy rivalOf overlapOf
+  idle-meets end words z = rw (le-ltb 0 own (omega arith)) (and-no (not (eqb mine (at core y))))
+
+  meet-closed :
+      (end words : List ℕ) → at closes y ≡ closeBy words end y
+      → rivalBy core start closes closes mine own from to y ≡ rivalBy core start end words mine own from to y
+  meet-closed end words e =
+      lt-or-ge 0 own
+      (λ h. sym (near-met h) ∙ near-rival core start closes mine from to y end words own h e)
+      (λ h. idle-meets closes closes (omega arith) ∙ sym (idle-meets end words (omega arith)))
 
 -- ---- one place, on columns
 module _ (costs sources targets links choices core words lengths start end : List ℕ) (a : ℕ)
@@ -81,7 +79,7 @@ module _ (costs sources targets links choices core words lengths start end : Lis
 
     module _ (closes tops : List ℕ) (w : Closed words end closes tops a) where
       closes-within : maxBelow (at closes) (2 * a) ≤ ends
-      unfolding closeBy
+      unfolding closeOf
       closes-within =
           max-mono (at closes) (at end) (2 * a)
           (λ y l. rw (w .closed y l) (cond-le (ltb 0 (at words y)) (le-refl (at end y)) zero-le))
@@ -95,8 +93,8 @@ module _ (costs sources targets links choices core words lengths start end : Lis
           any-same _ _ (2 * a)
           (λ y l.
           rw (
-            meet-closed core start end words closes y (w .closed y l) (t .mine) (t .reads) r e,
-            meet-closed core start end words closes y (w .closed y l) (t .mine) (t .writes) f (f + t .write),
+            meet-closed core start closes y (t .mine) (t .reads) r e end words (w .closed y l),
+            meet-closed core start closes y (t .mine) (t .writes) f (f + t .write) end words (w .closed y l),
           ))
 
       pub starts-alone :
@@ -249,7 +247,7 @@ module _ (core words end end' : List ℕ) (a : ℕ) (same : (y : ℕ) → y < 2 
             (λ d.
             same-or-not y (2 * a + 1)
             (λ e. rw e second)
-            (λ d'. before y (omega arith) ∙ w .closed y (omega arith) ∙ sym (close-kept y (omega arith))));
+            (λ d'. before y (omega arith) ∙ w .closed y (omega arith) ∙ ap (closeOf (at words y)) (sym (same y (omega arith)))));
         topped =
             λ y z l k.
             same-or-not y (2 * a + 2)
@@ -262,9 +260,6 @@ module _ (core words end end' : List ℕ) (a : ℕ) (same : (y : ℕ) → y < 2 
             (λ e. rw e (omega (arith, top-first, read z (omega arith))))
             (λ d'. omega (arith, tops-before y (omega arith), before z (omega arith), w .topped y z (omega arith) k)));
       }
-    where
-      close-kept : (y : ℕ) → y < 2 * a → closeBy words end' y ≡ closeBy words end y
-      close-kept y l = close-cong words end' end y (same y l)
 
 -- a phase of columns is met as one of phases with its numbers
 meet-same :

@@ -5,11 +5,11 @@ use mathlib.Core.Path.{_≡_}
 use mathlib.Core.Bool.{Bool, true, false, cond, not, _||_}
 use mathlib.Core.List.{List}
 use lib.ListN.{length}
-use lib.Dec.{eqb, ltb}
+use lib.Dec.{eqb}
 use Rattle.model.specs.Below.{at, maxBelow, anyBelow}
 use Rattle.model.specs.Plan.{tasks}
 use Rattle.model.specs.ListRule.{Candidate, coreIn, exclusive, LeastFree}
-use Rattle.contention.specs.Columns.{rivalBy}
+use Rattle.contention.specs.Columns.{rivalBy, closeOf}
 use Rattle.placing.specs.Candidates.{Chained}
 
 -- ---- "not before the F of any source or of any earlier-listed task on its core"
@@ -30,8 +30,8 @@ pub record Freed (core end free : List ℕ) (a : ℕ) : Type 0 where
   pub each : (c : ℕ) → c < 8 → at free c ≡ freeBy core end c a
 
 -- ---- phases that carry no words are closed: they end at 0, so that no window meets them
-unfoldable pub closeBy : List ℕ → List ℕ → ℕ → ℕ
-closeBy words end y = cond (ltb 0 (at words y)) (at end y) 0
+abbrev pub closeBy : List ℕ → List ℕ → ℕ → ℕ
+closeBy words end y = closeOf (at words y) (at end y)
 
 -- `closes` has the ends so far, and `tops` at y one that is not before any of those below y
 pub record Closed (words end closes tops : List ℕ) (a : ℕ) : Type 0 where

@@ -106,12 +106,12 @@ fn end_met(
     from: u32,
     to: u32,
 ) -> u32
-    requires { ⌜ Sized (now core) (now start) (now closes) (now closes) (y + 1) ⌝ }
+    requires { ⌜ Sized (now core) (now start) (now closes) (now closes) (y + 1) × (0 < own) ⌝ }
     ensures { λ r. ⌜ r ≡ endMet (now (core .entry)) (now (start .entry)) (now (closes .entry)) (now (closes .entry)) mine own from to y ⌝ }
 {
     let ends = closes[y];
     end_if(
-        contention::rival(mine, own, from, to, core[y], ends, start[y], ends),
+        contention::near(mine, from, to, core[y], start[y], ends),
         ends,
     )
 }
@@ -278,7 +278,7 @@ fn close_at(words: &[u32], end: &[u32], y: usize) -> u32
     requires { ⌜ (y < length (now words)) × (y < length (now end)) × (y < 128) ⌝ }
     ensures { λ r. ⌜ r ≡ closeBy (now (words .entry)) (now (end .entry)) y ⌝ }
 {
-    if 0 < words[y] { end[y] } else { 0 }
+    contention::close_of(words[y], end[y])
 }
 
 // Place a stands: its ends that a window may meet, and the greatest of those so far.

@@ -1,7 +1,10 @@
 -- `placing::end_met` meets its contract. The numbers at y.
-use mathlib.Core.Path.{_∙_}
-use Rattle.contention.specs.Columns.{rivalBy}
+use Rattle.model.specs.Below.{at}
+use Rattle.contention.specs.Columns.{nearBy}
 use Rattle.placing.specs.Starts.{endMet}
+use Rattle.placing.proofs.Places.{near-met}
+use mathlib.Core.Bool.{Bool, cond}
+use mathlib.Core.Path.{ap, _∙_}
 use borrow.Author.Needs.{needs}
 use Rattle.placing.proofs.end_met.Statement.{statement}
 use Rattle.placing.proofs.end_met.Tie as tie
@@ -12,27 +15,31 @@ mul-ends c = search needs
 shared-slice-read-ends : tie.Need-shared-slice-read-ends
 shared-slice-read-ends c = search needs
 
-mul-rival : tie.Need-mul-rival
-mul-rival c = search needs
+mul-near : tie.Need-mul-near
+mul-near c = search needs
 
-shared-slice-read-rival : tie.Need-shared-slice-read-rival
-shared-slice-read-rival c = search needs
+shared-slice-read-near : tie.Need-shared-slice-read-near
+shared-slice-read-near c = search needs
 
-mul-rival-2 : tie.Need-mul-rival-2
-mul-rival-2 c = search needs
+mul-near-2 : tie.Need-mul-near-2
+mul-near-2 c = search needs
 
-shared-slice-read-rival-2 : tie.Need-shared-slice-read-rival-2
-shared-slice-read-rival-2 c = search needs
+shared-slice-read-near-2 : tie.Need-shared-slice-read-near-2
+shared-slice-read-near-2 c = search needs
 
-rival-requires : tie.Need-rival-requires
-rival-requires c κs = search needs
+near-requires : tie.Need-near-requires
+near-requires c κs = search needs
 
 end-if-requires : tie.Need-end-if-requires
 end-if-requires c κs = search needs
 
 returns : tie.Need-returns
-unfolding endMet rivalBy
-returns c = c .end-if .ensures ∙ rw (c .before .rival .ensures)
+unfolding endMet nearBy
+returns c =
+    let a = c .before .before .before .before .before .before .before .before .args in
+    c .end-if .ensures
+    ∙ ap (λ (b : Bool). cond b (at (a .closes .now) (a .y)) 0)
+    (c .before .near .ensures ∙ near-met (a .core .now) (a .start .now) (a .closes .now) (a .y) (a .mine) (a .own) (a .from) (a .to) (c .before .before .before .before .before .before .before .before .pre .1))
 
 pub end-met-spec : {M : Type 1} → statement M
 end-met-spec =
@@ -40,10 +47,10 @@ end-met-spec =
     (tie.spec
     mul-ends
     shared-slice-read-ends
-    mul-rival
-    shared-slice-read-rival
-    mul-rival-2
-    shared-slice-read-rival-2
-    rival-requires
+    mul-near
+    shared-slice-read-near
+    mul-near-2
+    shared-slice-read-near-2
+    near-requires
     end-if-requires
     returns)

@@ -24,7 +24,7 @@ loop-holds : tie.Need-loop-holds Inv-loop μ-loop
 loop-holds c = let s = c .before .before .before .before in (s .pre .1, met-none (s .args .core .now) (s .args .start .now) (s .args .closes .now) (s .args .closes .now) _ (s .args .mine) (s .args .own) (s .args .from) (s .args .to) (s .pre .2))
 
 end-met-requires : tie.Need-end-met-requires Inv-loop μ-loop
-end-met-requires c κs = sized-less _ _ _ _ _ _ (omega arith) (c .before .before .before .before .before .before .pre .0)
+end-met-requires c κs = (sized-less _ _ _ _ _ _ (omega arith) (c .before .before .before .before .before .before .pre .0), omega (arith, c .before .before .if1 .left))
 
 later-requires : tie.Need-later-requires Inv-loop μ-loop
 later-requires c κs = search needs
