@@ -2,7 +2,7 @@
 // them stand the words that each phase has left, and each core's head: of its phases with words left the one that starts first.
 ghost use mathlib.Core.Path.{_≡_};
 ghost use mathlib.Core.List.{_++_};
-ghost use Prim.Native.Nat.{_+_, _*_, _<_, _≤_, min, max};
+ghost use Prim.Native.Nat.{_+_, _*_, _<_, _≤_, min};
 ghost use lib.ListN.{length, drop};
 ghost use Rattle.model.specs.Below.{at, listBelow};
 ghost use Rattle.model.specs.Counts.{D, Settings};
@@ -19,12 +19,6 @@ fn index(x: u32) -> usize
     ensures { λ r. ⌜ r ≡ x ⌝ }
 {
     x as usize
-}
-
-fn later(a: u32, b: u32) -> u32
-    ensures { λ r. ⌜ r ≡ max a b ⌝ }
-{
-    if a < b { b } else { a }
 }
 
 fn lesser(a: u32, b: u32) -> u32
@@ -280,7 +274,7 @@ fn grants(
     let mut lead = lead_of(start, head, left.len());
     while lead < head.len() {
         let first = head[lead];
-        let time = later(free, start[first]);
+        let time = contention::later(free, start[first]);
         let c = turn(start, head, left.len(), last, time);
         free = grant(bus, core, start, time, c, left, head, out);
         last = c;

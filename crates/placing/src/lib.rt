@@ -12,13 +12,6 @@ ghost use Rattle.placing.specs.Candidates.{candidateBy, Ready, FewCores,
 ghost use Rattle.placing.specs.Starts.{freeBy, sentBy, earliestBy, Freed, closeBy, Closed, task, taskAt, endMet, metUntil, clashBy, nextBy, Starts, Room, Prepared};
 use model::Bus;
 
-// The later of two times.
-pub fn later(x: u32, y: u32) -> u32
-    ensures { λ r. ⌜ r ≡ max x y ⌝ }
-{
-    if x < y { y } else { x }
-}
-
 fn index(x: u8) -> usize
     ensures { λ r. ⌜ r ≡ x ⌝ }
 {
@@ -62,7 +55,7 @@ fn sources_end(
     let mut left = number(links[a]);
     while 0 < left {
         let e = left - 1;
-        from = later(from, source_end(sources, end, e));
+        from = contention::later(from, source_end(sources, end, e));
         left = number(links[64 + e]);
     }
     from
@@ -83,7 +76,7 @@ fn earliest_start(
     ensures { λ r. ⌜ r ≡ earliestBy (now (sources .entry)) (now (targets .entry)) (now (core .entry)) (now (end .entry)) a ⌝ }
 {
     let mine = core_index(core[2 * a]);
-    later(
+    contention::later(
         free[mine],
         sources_end(sources, targets, links, end, places, a),
     )
@@ -136,7 +129,7 @@ fn met_until(
     }
     let mut until: u32 = 0;
     for y in low..count {
-        until = later(until, end_met(core, start, closes, y, mine, own, from, to));
+        until = contention::later(until, end_met(core, start, closes, y, mine, own, from, to));
     }
     until
 }
@@ -172,7 +165,7 @@ fn next_start(
     let f = w + write;
     let x = met_until(core, start, closes, low, count, mine, reads, r, e);
     let y = met_until(core, start, closes, low, count, mine, writes, w, f);
-    later(r, later(x, back(y, read + cost)))
+    contention::later(r, contention::later(x, back(y, read + cost)))
 }
 
 // The least start from `from` on at which the task meets none of the first `count` phases.
@@ -289,11 +282,11 @@ fn close_place(words: &[u32], end: &[u32], a: usize, closes: &mut [u32], tops: &
     let x = 2 * a;
     let read = close_at(words, end, x);
     let write = close_at(words, end, x + 1);
-    let top = later(tops[x], read);
+    let top = contention::later(tops[x], read);
     closes[x] = read;
     closes[x + 1] = write;
     tops[x + 1] = top;
-    tops[x + 2] = later(top, write);
+    tops[x + 2] = contention::later(top, write);
 }
 
 // Place a stands: its core is free from its F on.
@@ -302,7 +295,7 @@ fn free_core(core: &[u32], end: &[u32], a: usize, free: &mut [u32])
     ensures { λ _. ⌜ now (free .exit) ≡ set (now (free .entry)) (at (now (core .entry)) (2 * a)) (max (at (now (free .entry)) (at (now (core .entry)) (2 * a))) (at (now (end .entry)) (2 * a + 1))) ⌝ }
 {
     let mine = core_index(core[2 * a]);
-    free[mine] = later(free[mine], end[2 * a + 1]);
+    free[mine] = contention::later(free[mine], end[2 * a + 1]);
 }
 
 // Step 2: the windows of all places, in list order.

@@ -163,7 +163,7 @@ fn greatest_end(end: &[u32], tasks: usize) -> u32
 {
     let mut most: u32 = 0;
     for a in 0..tasks {
-        most = placing::later(most, end[2 * a + 1]);
+        most = contention::later(most, end[2 * a + 1]);
     }
     most
 }

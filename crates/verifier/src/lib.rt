@@ -1,7 +1,7 @@
 // The verifier: the windows of a table judged by every rule, on a plan's columns and a table's numbers.
 ghost use mathlib.Core.Path.{_≡_};
 ghost use mathlib.Core.List.{_++_};
-ghost use Prim.Native.Nat.{ℕ, _+_, _*_, _/_, _≤_, _<_, min, max};
+ghost use Prim.Native.Nat.{ℕ, _+_, _*_, _/_, _≤_, _<_, min};
 ghost use lib.ListN.{length, drop};
 ghost use Rattle.model.specs.Below.{at, listBelow};
 ghost use Rattle.model.specs.Counts.{mostWords, Settings};
@@ -103,12 +103,6 @@ fn edges(sources: &[u8], targets: &[u8], table: &[u32]) -> Check
     Check::Good
 }
 
-fn later(x: u32, y: u32) -> u32
-    ensures { λ r. ⌜ r ≡ max x y ⌝ }
-{
-    if x < y { y } else { x }
-}
-
 fn earlier(x: u32, y: u32) -> u32
     ensures { λ r. ⌜ r ≡ min x y ⌝ }
 {
@@ -121,7 +115,7 @@ fn cross_at(core: u32, r: u32, f: u32, table: &[u32], j: usize) -> Check
     ensures { λ x. ⌜ x ≡ refuseIf (crossing core r f (ofNumbers (now (table .entry)) .core j) (ofNumbers (now (table .entry)) .R j) (ofNumbers (now (table .entry)) .F j)) (refusal Fault.SpansCross Side.OfTable (20 * j)) ⌝ }
 {
     let same = core == table::core_at(table, j);
-    let from = later(r, table::read_start(table, j));
+    let from = contention::later(r, table::read_start(table, j));
     let to = earlier(f, table::end_at(table, j));
     refuse_if(same & (from < to), Fault::SpansCross, j)
 }
@@ -194,7 +188,7 @@ fn makespan(table: &[u32], tasks: usize) -> u32
 {
     let mut most: u32 = 0;
     for i in 0..tasks {
-        most = later(most, table::end_at(table, i));
+        most = contention::later(most, table::end_at(table, i));
     }
     most
 }
