@@ -12,7 +12,7 @@ use lib.Dec.{ltb}
 use borrow.Author.Tests.{ltb-true}
 use Rattle.model.specs.Below.{at, bestBelow}
 use Rattle.model.specs.Plan.{Plan, tasks, edges, cores, source, target, amount}
-use Rattle.model.specs.ListRule.{added, candidate, coreIn, chosen, winner}
+use Rattle.model.specs.ListRule.{added, candidate, chosen, winner}
 use Rattle.model.proofs.Tests.{lt-or-ge, and-both, cond-le}
 use Rattle.model.proofs.Below.{list-length, list-at}
 use Rattle.model.proofs.Plan.{snoc-length}

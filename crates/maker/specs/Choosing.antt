@@ -1,6 +1,6 @@
 -- "For each one, every core is tried in two modes .. with the earlier tasks' cores and modes kept" (document 01, "The list rule";
 -- `chosen`), over the columns by place. Assumes nothing.
-use Prim.Native.Nat.{ℕ, _+_, _*_, _≤_, _<_}
+use Prim.Native.Nat.{ℕ, _*_, _≤_, _<_}
 use mathlib.Core.Path.{_≡_}
 use mathlib.Core.Bool.{false}
 use mathlib.Core.List.{List}

@@ -30,7 +30,7 @@ use Rattle.model.specs.declared.Step.{Step}
 use Rattle.model.specs.declared.Step.the-variants.{Field, End, Broken}
 use Rattle.model.specs.declared.Verdict.{Verdict}
 use Rattle.model.proofs.Tests.{either, lt-or-ge}
-use Rattle.model.proofs.Refusals.{refused, stopped}
+use Rattle.model.proofs.Refusals.{stopped}
 use Rattle.model.proofs.Verdicts.{broken-facts, broken-test}
 
 -- a refusal's number

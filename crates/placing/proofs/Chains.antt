@@ -1,15 +1,13 @@
 -- The chain of the edges to a place: along it all edges to the place are met, and no other. Assumes nothing.
 use mathlib.Core.Path.{_≡_, refl, sym, ap, _∙_}
-use mathlib.Core.Bool.{Bool, true, false, cond, _||_}
 use mathlib.Core.List.{List}
 use Prim.Native.Nat.{ℕ, zero, suc, _+_, _*_, _-_, _≤_, _<_, max, zero-le}
 use native.Mathlib.Omega.{arith}
 use lib.ListN.{length}
 use lib.Dec.{eqb}
 use borrow.Author.Tests.{eqb-true, eq-eqb}
-use Rattle.model.specs.Below.{at, maxBelow, joinBelow}
+use Rattle.model.specs.Below.{at, joinBelow}
 use Rattle.model.proofs.Tests.{either}
-use Rattle.model.proofs.Below.{join-step}
 use Rattle.placing.specs.Candidates.{lastTo, Chained}
 use Rattle.placing.specs.Starts.{sentBy}
 

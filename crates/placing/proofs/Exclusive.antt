@@ -1,17 +1,17 @@
 -- The exclusive start by jumps. A window that meets a phase goes on meeting it until it starts at the phase's end: so all starts
 -- before the greatest end that is met clash. Assumes nothing.
 use mathlib.Core.Path.{_≡_, refl, sym, ap, subst, subst₂, _∙_}
-use mathlib.Core.Bool.{Bool, true, false, cond, not, _&&_, _||_}
+use mathlib.Core.Bool.{Bool, true, false, not}
 use mathlib.Core.List.{List}
-use Prim.Native.Nat.{ℕ, zero, suc, _+_, _*_, _-_, _≤_, _<_, max, zero-le}
-use native.Mathlib.Nat.{le-refl, le-trans}
+use Prim.Native.Nat.{ℕ, zero, suc, _+_, _-_, _≤_, _<_, max, zero-le}
+use native.Mathlib.Nat.{le-refl}
 use native.Mathlib.Omega.{arith}
 use lib.Dec.{eqb}
 use borrow.Author.Tests.{le-ltb}
-use Rattle.model.specs.Below.{at, joinBelow, maxBelow, anyBelow}
+use Rattle.model.specs.Below.{at, joinBelow, maxBelow}
 use Rattle.model.specs.Contention.{Phases}
 use Rattle.model.specs.ListRule.{LeastFree}
-use Rattle.model.proofs.Tests.{either, conflict, lt-or-ge, same-or-not, and-no, or-none, or-left, or-right, cond-le, below-suc}
+use Rattle.model.proofs.Tests.{either, conflict, lt-or-ge, same-or-not, and-no, or-none, or-left, or-right, cond-le}
 use Rattle.model.proofs.Below.{max-ge, max-le, max-mono, any-none, any-here}
 use Rattle.model.proofs.Placing.{meets, meets-after, meets-moved}
 use Rattle.contention.specs.Columns.{overlapOf, rivalOf, rivalBy, phasesBy}

@@ -1,9 +1,9 @@
 -- The places in list order. While place a is placed, the columns hold the windows of the places before it as the list rule has
 -- them: so what is computed on columns is what the rule says. Assumes nothing.
-use mathlib.Core.Path.{_≡_, refl, sym, ap, subst, _∙_}
-use mathlib.Core.Bool.{Bool, true, false, cond, not, _&&_, _||_}
+use mathlib.Core.Path.{_≡_, refl, sym, ap, _∙_}
+use mathlib.Core.Bool.{Bool, true, false, cond, not, _||_}
 use mathlib.Core.List.{List, _++_}
-use Prim.Native.Nat.{ℕ, zero, suc, _+_, _*_, _-_, _/_, _%_, _≤_, _<_, max, zero-le}
+use Prim.Native.Nat.{ℕ, zero, suc, _+_, _*_, _-_, _%_, _≤_, _<_, max, zero-le}
 use native.Mathlib.Nat.{le-refl}
 use native.Mathlib.Omega.{arith}
 use lib.ListN.{length, take, drop, set, replicate, length-set, length-replicate}
@@ -11,15 +11,15 @@ use lib.Seq.{getD-take, getD-set-same, getD-set-other}
 use lib.Dec.{ltb, eqb}
 use borrow.Author.Tests.{eqb-true, eq-eqb, ne-eqb, le-ltb, ltb-false}
 use Rattle.model.specs.Below.{at, joinBelow, maxBelow, anyBelow}
-use Rattle.model.specs.Plan.{tasks, cost}
+use Rattle.model.specs.Plan.{cost}
 use Rattle.model.specs.Table.{Table}
 use Rattle.model.specs.Contention.{Phases, ofPhase, phasesIn}
 use Rattle.model.specs.Rules.{makespan}
-use Rattle.model.specs.ListRule.{Candidate, coreIn, exclusive, windows, isSource, earliest, LeastFree, startOf, startsOf, placed}
+use Rattle.model.specs.ListRule.{Candidate, coreIn, exclusive, windows, isSource, earliest, LeastFree, startsOf, placed}
 use Rattle.model.specs.declared.Bus.{Bus}
 use Rattle.model.proofs.Tests.{either, lt-or-ge, conflict, same-or-not, cond-le, and-no, and-true, and-both, or-left, or-right}
 use Rattle.model.proofs.Below.{max-ge, max-le, max-same, max-mono, join-step, any-same, any-here, any-found}
-use Rattle.model.proofs.Contention.{half-even, half-odd, of-even, of-odd}
+use Rattle.model.proofs.Contention.{half-even, of-even, of-odd}
 use Rattle.model.proofs.Placing.{meets, clashing, end-within, overlapping-start, exclusive-start, starts-length, starts-stay, placed-start, placed-top, placed-within}
 use Rattle.model.proofs.Spans.{Limits, room-within}
 use Rattle.contention.specs.Columns.{overlapOf, rivalOf, rivalBy, Sized, startColumn, endColumn, backTo, closeOf, nearBy}

@@ -9,7 +9,7 @@ ghost use Rattle.model.specs.Below.{at, maxBelow};
 ghost use Rattle.model.specs.ListRule.{LeastFree, placed};
 ghost use Rattle.contention.specs.Columns.{Sized, startColumn, endColumn};
 ghost use Rattle.placing.specs.Candidates.{candidateBy, Ready, FewCores, Chained};
-ghost use Rattle.placing.specs.Starts.{freeBy, sentBy, earliestBy, Freed, closeBy, Closed, task, taskAt, endMet, metUntil, clashBy, nextBy, Starts, Room, Prepared};
+ghost use Rattle.placing.specs.Starts.{sentBy, earliestBy, Freed, closeBy, Closed, task, endMet, metUntil, clashBy, nextBy, Starts, Room, Prepared};
 use model::Bus;
 
 fn index(x: u8) -> usize

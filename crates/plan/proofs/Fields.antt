@@ -1,16 +1,15 @@
 -- The loop of `parse`: what holds at its head, and how a field carries it on. Assumes nothing.
 use mathlib.Core.Path.{_≡_, refl, sym, ap, subst, _∙_}
-use mathlib.Core.Bool.{Bool, true, false, cond}
+use mathlib.Core.Bool.{false}
 use mathlib.Core.List.{List, [], _∷_, _++_}
 use Prim.Native.Nat.{ℕ, suc, _+_, _-_, _≤_, _<_}
 use native.Mathlib.Nat.{add-zero, zero-add}
 use native.Mathlib.Omega.{arith}
-use lib.Dec.{ltb, eqb}
+use lib.Dec.{eqb}
 use lib.ListN.{length, set, drop}
 use lib.Seq.{sets, sets-eq, length-sets}
 use borrow.Author.Tests.{lt-ltb, ne-eqb}
-use Rattle.model.specs.Counts.{Settings}
-use Rattle.model.specs.Plan.{Plan, Reading, tasks, edges, cores, source, target, keyOf, fieldOf, noPlan, withBus, withTask, withEdge, leastKey, onWith, readingFrom, readingOf}
+use Rattle.model.specs.Plan.{Plan, Reading, tasks, edges, cores, keyOf, fieldOf, noPlan, withBus, withTask, withEdge, leastKey, onWith, readingFrom, readingOf}
 use Rattle.model.specs.Plan.{seen as seenOf}
 use Rattle.model.specs.declared.Bus.{Bus}
 use Rattle.model.specs.declared.Refusal.{Refusal}
@@ -19,7 +18,7 @@ use Rattle.model.specs.declared.Check.the-variants.{Good, Bad}
 use Rattle.model.specs.declared.Seen.{Seen}
 use Rattle.model.specs.declared.Taken.{Taken}
 use Rattle.model.specs.declared.Taken.the-variants.{Header, Task, Edge, Complete, Refused}
-use Rattle.model.proofs.Plan.{Took, HeaderTaken, TaskTaken, EdgeTaken, AllTaken, took, reading-on, snoc-length, snoc-new, Partly, partly-none, partly-header, partly-task, partly-edge}
+use Rattle.model.proofs.Plan.{Took, HeaderTaken, TaskTaken, EdgeTaken, took, reading-on, snoc-length, snoc-new, Partly, partly-none, partly-header, partly-task, partly-edge}
 use Rattle.plan.specs.Planned.{parsedBy, filled, afterHeader, afterTask, afterEdge}
 use Rattle.plan.specs.declared.Parsed.{Parsed}
 

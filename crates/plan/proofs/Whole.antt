@@ -1,15 +1,15 @@
 -- From the fields and the list order to the plan that was read, and what its columns hold for the callers. Assumes nothing.
 use mathlib.Core.Path.{_≡_, refl, sym, ap, subst, _∙_}
 use mathlib.Core.Bool.{false}
-use mathlib.Core.List.{List, _++_}
+use mathlib.Core.List.{List}
 use Prim.Native.Nat.{ℕ, _+_, _≤_, _<_}
 use native.Mathlib.Omega.{arith}
 use lib.ListN.{length, drop, take, replicate, length-replicate, List·getD-append}
 use lib.Seq.{take-append-seam}
 use Rattle.model.specs.Below.{at}
-use Rattle.model.specs.Refusals.{refusal, refuseIf, orElse, gives, refuses}
+use Rattle.model.specs.Refusals.{refusal, refuseIf, gives, refuses}
 use Rattle.model.specs.Field.{planStep}
-use Rattle.model.specs.Plan.{Plan, Reading, tasks, edges, source, target, readingOf}
+use Rattle.model.specs.Plan.{Plan, tasks, edges, source, target, readingOf}
 use Rattle.model.specs.Plan.{tasks as tasksOf}
 use Rattle.model.specs.Plan.{edges as edgesOf}
 use Rattle.model.specs.Graph.{listOrder, leftOver, planOf}

@@ -1,11 +1,11 @@
 -- A candidate's columns, from its choices to the first windows, and from the last round to the answer. Assumes nothing.
-use mathlib.Core.Path.{_≡_, refl, sym, ap, _∙_}
+use mathlib.Core.Path.{_≡_, refl, ap, _∙_}
 use mathlib.Core.List.{List, _++_}
 use Prim.Native.Nat.{ℕ, _+_, _*_, _/_, _≤_, _<_}
 use native.Mathlib.Omega.{arith}
 use lib.ListN.{length, take, drop}
 use Rattle.model.specs.Below.{at, maxBelow, listBelow}
-use Rattle.model.specs.Counts.{delay, mostWords, Settings}
+use Rattle.model.specs.Counts.{delay, mostWords}
 use Rattle.model.specs.Plan.{Plan, source, target}
 use Rattle.model.specs.Contention.{ofPhase, phaseWords}
 use Rattle.model.specs.ListRule.{Candidate, coreIn, placed, firstLengths, rounds, settled, finished, makespanOf}
@@ -16,7 +16,7 @@ use Rattle.model.proofs.Settles.{rounds-length}
 use Rattle.model.proofs.Spans.{Limits, words-within, rounds-short}
 use Rattle.contention.specs.Columns.{edgesBy, coreColumn, startColumn, endColumn}
 use Rattle.contention.proofs.Loads.{plan-words, words-same}
-use Rattle.placing.specs.Candidates.{planBy, candidateBy, Ready}
+use Rattle.placing.specs.Candidates.{candidateBy, Ready}
 use Rattle.placing.specs.Starts.{Prepared}
 use Rattle.placing.proofs.Places.{ready-limits}
 use Rattle.rounds.specs.Standing.{Standing}

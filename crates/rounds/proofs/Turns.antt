@@ -1,8 +1,8 @@
 -- One round after the other: what the columns hold, and that the last one holds the settled lengths. Assumes nothing.
-use mathlib.Core.Path.{_≡_, refl, sym, ap, subst, _∙_}
-use mathlib.Core.Bool.{Bool, true, false}
+use mathlib.Core.Path.{_≡_, refl, sym, ap, _∙_}
+use mathlib.Core.Bool.{Bool, false}
 use mathlib.Core.List.{List, _++_}
-use Prim.Native.Nat.{ℕ, suc, _+_, _*_, _-_, _/_, _≤_, _<_, max}
+use Prim.Native.Nat.{ℕ, suc, _+_, _*_, _-_, _≤_, _<_, max}
 use native.Mathlib.Numerals.{add-one}
 use native.Mathlib.Omega.{arith}
 use lib.ListN.{length, take, drop}
@@ -11,10 +11,10 @@ use lib.Dec.{ltb}
 use borrow.Author.Tests.{ltb-false}
 use Rattle.model.specs.Below.{at, anyBelow, listBelow}
 use Rattle.model.specs.Counts.{mostWords, Settings}
-use Rattle.model.specs.Plan.{tasks, cores}
+use Rattle.model.specs.Plan.{cores}
 use Rattle.model.specs.Contention.{Phases, ofPhase, phasesIn}
 use Rattle.model.specs.Rules.{delayAt}
-use Rattle.model.specs.ListRule.{Candidate, coreIn, placed, firstLengths, grown, rounds, settled}
+use Rattle.model.specs.ListRule.{Candidate, coreIn, placed, grown, rounds, settled}
 use Rattle.model.specs.declared.Bus.{Bus}
 use Rattle.model.proofs.Below.{any-each, list-length, list-at, list-same}
 use Rattle.model.proofs.Contention.{Agree}
@@ -22,7 +22,7 @@ use Rattle.model.proofs.Settles.{rounds-length, settled-early}
 use Rattle.model.proofs.Spans.{Limits, words-within, rounds-short}
 use Rattle.contention.specs.Columns.{phasesBy, Sized, startColumn, endColumn}
 use Rattle.contention.proofs.Rivalry.{delay-same}
-use Rattle.placing.specs.Candidates.{planBy, candidateBy, Ready}
+use Rattle.placing.specs.Candidates.{candidateBy, Ready}
 use Rattle.placing.specs.Starts.{Prepared}
 use Rattle.placing.proofs.Places.{ready-limits}
 use Rattle.rounds.specs.Standing.{Standing}

@@ -1,14 +1,14 @@
 -- What `run` needs at each step, from what judging left: the judgement and the four columns. Assumes nothing.
-use mathlib.Core.Path.{_≡_, sym, _∙_}
+use mathlib.Core.Path.{_≡_}
 use mathlib.Core.List.{List, _++_}
-use Prim.Native.Nat.{ℕ, _*_, _≤_, _<_}
+use Prim.Native.Nat.{ℕ, _*_, _≤_}
 use native.Mathlib.Omega.{arith}
 use lib.ListN.{length, take, drop}
 use Rattle.model.specs.Below.{at}
 use Rattle.model.specs.Plan.{tasks, cores}
 use Rattle.model.specs.Table.{ofNumbers}
-use Rattle.model.specs.BusRule.{Use, answers}
-use Rattle.model.specs.Answers.{Judged, judged}
+use Rattle.model.specs.BusRule.{answers}
+use Rattle.model.specs.Answers.{judged}
 use Rattle.model.specs.declared.Bus.{Bus}
 use Rattle.model.specs.declared.Refusal.{Refusal}
 use Rattle.model.specs.declared.Check.{Check}

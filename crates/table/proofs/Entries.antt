@@ -1,16 +1,15 @@
 -- The ways out of `read` and `write`: the answer, and the lent output after it. Assumes nothing.
-use mathlib.Core.Path.{_≡_, refl, sym, ap, _∙_}
-use mathlib.Core.Bool.{true, not}
+use mathlib.Core.Path.{_≡_, sym, _∙_}
+use mathlib.Core.Bool.{not}
 use mathlib.Core.List.{List, _++_}
 use Prim.Native.Nat.{ℕ, _+_, _*_, _≤_, _<_}
-use native.Mathlib.Omega.{arith}
 use lib.ListN.{length, drop}
-use borrow.Author.Tests.{lt-ltb, le-ltb, ne-eqb, eq-eqb, eqb-true, not-false, leb-false, ltb-false}
-use lib.Dec.{eqb, leb, ltb}
+use borrow.Author.Tests.{lt-ltb, le-ltb, ne-eqb, eq-eqb, eqb-true, not-false, leb-false}
+use lib.Dec.{eqb, leb}
 use Rattle.model.specs.Refusals.{refusal, refuseIf, firstBad, gives, refuses}
 use Rattle.model.specs.Plan.{Plan, tasks, cores}
 use Rattle.model.specs.Graph.{planOf}
-use Rattle.model.specs.Table.{ofNumbers, ofBytes, numbersAt, numbers, bytesAt, bytes, nonFalling, valuesOf, valuesAt, rowAt, rowsCheck, tableOf, valuesCheck}
+use Rattle.model.specs.Table.{ofNumbers, ofBytes, numbersAt, numbers, bytesAt, bytes, nonFalling, valuesOf, valuesAt, rowsCheck, tableOf, valuesCheck}
 use Rattle.model.specs.Answers.{room, decoding, decodedOf, decodedOutput, writing, writtenOf, writtenOutput}
 use Rattle.model.specs.declared.Fault.the-variants.{OutputShort, FieldCount, CoreUnknown, MarksFalling}
 use Rattle.model.specs.declared.Side.the-variants.{OfNeither, OfTable}

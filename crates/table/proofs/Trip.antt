@@ -1,26 +1,20 @@
 -- The round trips, in the entry points' own answers, and that each promise settles its answer and its output.
 -- Assumes nothing.
-use mathlib.Core.Path.{_≡_, refl, sym, ap, _∙_}
+use mathlib.Core.Path.{_≡_, refl, sym, _∙_}
 use mathlib.Core.List.{List, _++_}
 use Prim.Native.Nat.{ℕ, _*_, _≤_, _<_}
 use native.Mathlib.Omega.{arith}
 use lib.ListN.{length, drop}
-use borrow.Author.Tests.{le-ltb, ltb-false, eq-eqb}
-use lib.Dec.{ltb}
+use borrow.Author.Tests.{le-ltb, eq-eqb}
 use Rattle.model.specs.Below.{at}
-use Rattle.model.specs.Refusals.{Outcome, gives, refuses, refusal, firstBad, passing, orElse}
-use Rattle.model.specs.Plan.{Plan, tasks, cores}
+use Rattle.model.specs.Refusals.{Outcome, gives, refuses, orElse}
+use Rattle.model.specs.Plan.{tasks, cores}
 use Rattle.model.specs.Graph.{planOf}
-use Rattle.model.specs.Table.{ofNumbers, ofBytes, numbersAt, numbers, bytesAt, bytes, rowsCheck, tableOf, valuesAt, valuesCheck}
+use Rattle.model.specs.Table.{ofNumbers, ofBytes, numbersAt, numbers, bytes, rowsCheck, tableOf, valuesAt, valuesCheck}
 use Rattle.model.specs.Answers.{room, decoding, decodedBy, decodedOf, decodedOutput, writing, writtenBy, writtenOf, writtenOutput}
-use Rattle.model.specs.declared.Refusal.{Refusal}
-use Rattle.model.specs.declared.Fault.the-variants.{OutputShort}
-use Rattle.model.specs.declared.Side.the-variants.{OfNeither}
-use Rattle.model.specs.declared.Check.{Check}
-use Rattle.model.specs.declared.Check.the-variants.{Good, Bad}
 use Rattle.model.specs.declared.Decoded.{Decoded}
 use Rattle.model.specs.declared.Written.{Written}
-use Rattle.model.proofs.Refusals.{passed, or-good, not-refused, and-then, first-all, first-each}
+use Rattle.model.proofs.Refusals.{passed, or-good, and-then, first-all}
 use Rattle.model.proofs.RoundTrip.{of-numbers, in-range-same, values-good, written-reads, blocks-length}
 use Rattle.model.proofs.ReadBack.{numbers-write, numbers-all, values-in-range, rows-in-range, rows-length}
 use Rattle.table.proofs.Rows.{numbers-long}

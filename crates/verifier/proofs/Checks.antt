@@ -1,15 +1,15 @@
 -- What each check found is the definition's check of that task, edge, pair or phase. Assumes nothing.
-use mathlib.Core.Path.{_≡_, refl, sym, ap, _∙_}
+use mathlib.Core.Path.{_≡_, refl, ap}
 use mathlib.Core.Bool.{Bool, true, false, _&&_}
 use mathlib.Core.List.{List, _++_}
 use Prim.Native.Nat.{ℕ, _+_, _*_, _/_, _≤_, _<_, min, max}
 use native.Mathlib.Omega.{arith}
 use lib.Dec.{ltb, eqb}
 use lib.ListN.{length, drop}
-use borrow.Author.Tests.{lt-ltb, le-ltb}
+use borrow.Author.Tests.{lt-ltb}
 use Rattle.model.specs.Below.{at, listBelow}
 use Rattle.model.specs.Refusals.{refusal, refuseIf, orElse, firstBad}
-use Rattle.model.specs.Table.{Table, ofNumbers}
+use Rattle.model.specs.Table.{Table}
 use Rattle.model.specs.Rules.{delayAt, executeAt, edgeAt, crossing, crossAt, windowAt}
 use Rattle.model.specs.declared.Bus.{Bus}
 use Rattle.model.specs.declared.Fault.{Fault}

@@ -1,16 +1,16 @@
 -- The ways out of `judge`: the answer, and the lent columns after it. Assumes nothing.
-use mathlib.Core.Path.{_≡_, refl, sym, ap, subst, _∙_}
+use mathlib.Core.Path.{_≡_, refl, sym, ap, _∙_}
 use mathlib.Core.List.{List, _++_}
-use Prim.Native.Nat.{ℕ, _*_, _≤_, _<_}
+use Prim.Native.Nat.{ℕ, _*_, _≤_}
 use native.Mathlib.Omega.{arith}
 use lib.ListN.{length, take, drop, length-append}
 use lib.Seq.{take-append-seam}
 use Rattle.model.specs.Refusals.{Outcome, gives, refuses, passing}
-use Rattle.model.specs.Plan.{Plan, Valid, tasks, cores}
+use Rattle.model.specs.Plan.{Plan, tasks, cores}
 use Rattle.model.specs.Graph.{planOf}
 use Rattle.model.specs.Table.{Table, ofNumbers, ofBytes, numbersAt, numbers, rowsCheck, tableOf}
 use Rattle.model.specs.Contention.{phaseWords}
-use Rattle.model.specs.Rules.{rulesCheck, makespan}
+use Rattle.model.specs.Rules.{rulesCheck}
 use Rattle.model.specs.Answers.{Judged, judged, verdictBy, verdictOf}
 use Rattle.model.specs.declared.Refusal.{Refusal}
 use Rattle.model.specs.declared.Check.{Check}

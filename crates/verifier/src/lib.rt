@@ -8,7 +8,7 @@ ghost use Rattle.model.specs.Counts.{mostWords, Settings};
 ghost use Rattle.model.specs.Plan.{Valid};
 ghost use Rattle.model.specs.Refusals.{refusal, refuseIf, firstBad};
 ghost use Rattle.model.specs.Table.{ofNumbers};
-ghost use Rattle.model.specs.Contention.{ofPhase, phaseWords};
+ghost use Rattle.model.specs.Contention.{phaseWords};
 ghost use Rattle.model.specs.Rules.{executeAt, edgeAt, crossing, crossAt, windowAt, makespan as greatestEnd};
 ghost use Rattle.model.specs.Answers.{verdictOf};
 ghost use Rattle.contention.specs.Columns.{phasesBy, coreColumn, startColumn, endColumn, Sized, edgesBy, Edges};

@@ -1,6 +1,5 @@
 -- `placing::close_place` meets its contract. Two entries of each column.
 use lib.ListN.{length-set}
-use mathlib.Core.Path.{_∙_}
 use native.Mathlib.Omega.{arith}
 use borrow.Author.Needs.{needs}
 use Rattle.placing.proofs.close_place.Statement.{statement}

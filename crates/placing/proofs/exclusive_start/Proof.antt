@@ -2,8 +2,7 @@
 use Rattle.placing.proofs.Exclusive.{Passed, passed-on, passed-end}
 use Rattle.placing.specs.Starts.{task}
 use Rattle.model.specs.Below.{at, maxBelow}
-use Prim.Native.Nat.{_≤_, _<_, _-_, max}
-use mathlib.Core.Path.{_≡_, sym, _∙_}
+use Prim.Native.Nat.{_≤_, _-_, max}
 use native.Mathlib.Omega.{arith}
 use Rattle.placing.proofs.exclusive_start.Statement.{statement}
 use Rattle.placing.proofs.exclusive_start.Tie as tie

@@ -4,7 +4,7 @@ use Rattle.model.proofs.Below.{join-step, join-end}
 use Rattle.model.specs.Below.{maxBelow}
 use Rattle.contention.proofs.Rivalry.{sized-less}
 use Rattle.placing.specs.Starts.{endMet}
-use Prim.Native.Nat.{_≤_, _<_, _-_, max}
+use Prim.Native.Nat.{_≤_, _-_, max}
 use mathlib.Core.Path.{_≡_, _∙_}
 use native.Mathlib.Omega.{arith}
 use borrow.Author.Needs.{needs}

@@ -6,7 +6,6 @@ use Rattle.model.specs.ListRule.{placed}
 use Rattle.model.specs.declared.Bus.{Bus}
 use lib.ListN.{length, take}
 use Prim.Native.Nat.{_≤_, _-_, _*_}
-use mathlib.Core.Path.{_≡_}
 use native.Mathlib.Omega.{arith}
 use borrow.Author.Needs.{needs}
 use Rattle.placing.proofs.place.Statement.{statement}

@@ -1,7 +1,7 @@
 -- `plan::after_edge` meets its contract. The key of the edge is the call's.
 use Rattle.model.specs.declared.Seen.{Seen}
 use Prim.Native.Nat.{ℕ, _+_}
-use mathlib.Core.Path.{_≡_, ap}
+use mathlib.Core.Path.{ap}
 use borrow.Author.Needs.{needs}
 use Rattle.plan.proofs.after_edge.Statement.{statement}
 use Rattle.plan.proofs.after_edge.Tie as tie

@@ -1,10 +1,9 @@
 -- `plan::body_of` meets its contract. By the side; each length is 17 at most.
 use Rattle.model.proofs.Field.{plan-body-most, table-body-most}
 use Rattle.model.specs.declared.Side.{Side}
-use Rattle.model.specs.Field.{planBody, tableBody, bodyOf}
-use Prim.Native.Nat.{ℕ, _≤_}
+use Rattle.model.specs.Field.{bodyOf}
 use native.Mathlib.Omega.{arith}
-use mathlib.Core.Path.{_≡_, sym, ap, _∙_}
+use mathlib.Core.Path.{sym, ap, _∙_}
 use borrow.Author.Needs.{needs}
 use Rattle.plan.proofs.body_of.Statement.{statement}
 use Rattle.plan.proofs.body_of.Tie as tie

@@ -1,7 +1,6 @@
 -- `plan::by_tag` meets its contract. A tag's body length says how far the field reaches.
 use Rattle.model.proofs.Field.{header-body, task-body, edge-body}
 use Rattle.plan.proofs.Ways.{tagged-header, tagged-task, tagged-edge}
-use mathlib.Core.Path.{_≡_}
 use native.Mathlib.Omega.{arith}
 use Rattle.plan.proofs.by_tag.Statement.{statement}
 use Rattle.plan.proofs.by_tag.Tie as tie

@@ -1,5 +1,5 @@
 -- `plan::edge_good` meets its contract. Each test is one of the definition's.
-use borrow.Author.Tests.{lt-ltb, le-ltb, le-leb, lt-leb, eq-eqb, ne-eqb}
+use borrow.Author.Tests.{lt-ltb, le-ltb, le-leb, lt-leb}
 use Rattle.plan.proofs.edge_good.Statement.{statement}
 use Rattle.plan.proofs.edge_good.Tie as tie
 

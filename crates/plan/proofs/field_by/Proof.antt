@@ -1,10 +1,8 @@
 -- `plan::field_by` meets its contract. By what the step found.
 use Rattle.model.proofs.Field.{whole}
-use Rattle.model.specs.declared.Step.{Step}
 use Rattle.model.specs.declared.Side.the-variants.{OfPlan}
 use Rattle.model.specs.Plan.{fieldBy}
-use Rattle.model.specs.Field.{planStep}
-use mathlib.Core.Path.{_≡_, sym, ap, _∙_}
+use mathlib.Core.Path.{sym, ap, _∙_}
 use native.Mathlib.Omega.{arith}
 use borrow.Author.Needs.{needs}
 use Rattle.plan.proofs.field_by.Statement.{statement}

@@ -1,6 +1,6 @@
 -- `plan::in_order` meets its contract. Each test is one of the definition's.
 use Rattle.model.specs.Plan.{inOrder}
-use borrow.Author.Tests.{lt-ltb, le-ltb, le-leb, lt-leb, eq-eqb, ne-eqb}
+use borrow.Author.Tests.{eq-eqb, ne-eqb}
 use Rattle.plan.proofs.in_order.Statement.{statement}
 use Rattle.plan.proofs.in_order.Tie as tie
 

@@ -1,6 +1,6 @@
 -- `plan::settings_good` meets its contract. Each test is one of the definition's.
 use Rattle.model.specs.Plan.{settingsGood}
-use borrow.Author.Tests.{lt-ltb, le-ltb, le-leb, lt-leb, eq-eqb, ne-eqb}
+use borrow.Author.Tests.{le-leb, lt-leb}
 use borrow.Author.Needs.{needs}
 use Rattle.plan.proofs.settings_good.Statement.{statement}
 use Rattle.plan.proofs.settings_good.Tie as tie

@@ -5,8 +5,8 @@ use Rattle.model.specs.Below.{at, listBelow}
 use Rattle.model.specs.Counts.{delay}
 use lib.ListN.{drop}
 use mathlib.Core.List.{_++_}
-use Prim.Native.Nat.{_-_, _≤_, _<_}
-use mathlib.Core.Path.{_≡_, refl}
+use Prim.Native.Nat.{_-_, _≤_}
+use mathlib.Core.Path.{_≡_}
 use native.Mathlib.Omega.{arith}
 use borrow.Author.Needs.{needs}
 use Rattle.rounds.proofs.first_lengths.Statement.{statement}

@@ -1,9 +1,8 @@
 -- `rounds::greatest_end` meets its contract. The greatest F of the places passed.
 use Rattle.model.proofs.Below.{join-step, join-end}
 use Rattle.model.specs.Below.{at, joinBelow, maxBelow}
-use Prim.Native.Nat.{_≤_, _<_, _-_, _*_, _+_, max}
+use Prim.Native.Nat.{_≤_, _-_, _*_, _+_, max}
 use mathlib.Core.Path.{_≡_, _∙_}
-use native.Mathlib.Omega.{arith}
 use borrow.Author.Needs.{needs}
 use Rattle.rounds.proofs.greatest_end.Statement.{statement}
 use Rattle.rounds.proofs.greatest_end.Tie as tie

@@ -1,6 +1,5 @@
 -- `rounds::prepare` meets its contract. Each column in its turn.
 use Rattle.rounds.proofs.Settling.{words-are, words-fit, lengths-are}
-use native.Mathlib.Omega.{arith}
 use borrow.Author.Needs.{needs}
 use Rattle.rounds.proofs.prepare.Statement.{statement}
 use Rattle.rounds.proofs.prepare.Tie as tie

@@ -3,7 +3,7 @@ use Rattle.rounds.specs.Standing.{Standing}
 use Rattle.rounds.proofs.Turns.{lengths-long, starts-long, ends-long, ready-to-grow, next-long, stop-early, ready-to-place, go-on, stop-late}
 use Rattle.placing.specs.Candidates.{candidateBy}
 use Rattle.model.specs.ListRule.{rounds}
-use Prim.Native.Nat.{_≤_, _<_, _-_, _*_}
+use Prim.Native.Nat.{_≤_, _-_}
 use borrow.Author.Tests.{not-true}
 use native.Mathlib.Omega.{arith}
 use borrow.Author.Needs.{needs}

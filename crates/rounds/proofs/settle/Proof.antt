@@ -6,7 +6,6 @@ use Rattle.model.specs.Below.{listBelow}
 use Rattle.model.specs.ListRule.{coreIn}
 use lib.ListN.{length}
 use Prim.Native.Nat.{_*_, _/_}
-use native.Mathlib.Omega.{arith}
 use borrow.Author.Needs.{needs}
 use Rattle.rounds.proofs.settle.Statement.{statement}
 use Rattle.rounds.proofs.settle.Tie as tie

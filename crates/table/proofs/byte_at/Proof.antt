@@ -1,5 +1,5 @@
 -- `table::byte_at` meets its contract. A byte is below 256, which the read gives.
-use mathlib.Core.Path.{_≡_, refl, sym, ap, _∙_}
+use mathlib.Core.Path.{refl}
 use native.Mathlib.Omega.{arith}
 use borrow.Author.Needs.{needs}
 use Rattle.table.proofs.byte_at.Statement.{statement}

@@ -1,6 +1,5 @@
 -- `table::four_at` meets its contract. Four bytes, high byte first.
 use Rattle.table.proofs.Checks.{four-read}
-use mathlib.Core.Path.{_≡_, refl, sym, ap, _∙_}
 use borrow.Author.Needs.{needs}
 use Rattle.table.proofs.four_at.Statement.{statement}
 use Rattle.table.proofs.four_at.Tie as tie

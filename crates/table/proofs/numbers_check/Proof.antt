@@ -1,7 +1,7 @@
 -- `table::numbers_check` meets its contract. The length, then each task.
 use Rattle.table.proofs.Entries.{numbers-other, numbers-given}
 use native.Mathlib.Omega.{arith}
-use mathlib.Core.Path.{_≡_, refl, sym, ap, _∙_}
+use mathlib.Core.Path.{_∙_}
 use borrow.Author.Needs.{needs}
 use Rattle.table.proofs.numbers_check.Statement.{statement}
 use Rattle.table.proofs.numbers_check.Tie as tie

@@ -4,7 +4,7 @@ use Rattle.model.specs.declared.Bus.{Bus}
 use Rattle.table.proofs.Entries.{read-unplanned, read-bad, read-short, read-done}
 use Rattle.plan.proofs.Whole.{plan-refused, plan-known}
 use native.Mathlib.Omega.{arith}
-use mathlib.Core.Path.{_≡_, refl, sym, ap, _∙_}
+use mathlib.Core.Path.{sym, ap, _∙_}
 use borrow.Author.Needs.{needs}
 use Rattle.table.proofs.read.Statement.{statement}
 use Rattle.table.proofs.read.Tie as tie

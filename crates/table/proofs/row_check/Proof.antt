@@ -1,6 +1,5 @@
 -- `table::row_check` meets its contract. By what the step found.
 use Rattle.table.proofs.Checks.{row-is, row-whole}
-use mathlib.Core.Path.{_≡_, refl, sym, ap, _∙_}
 use borrow.Author.Needs.{needs}
 use Rattle.table.proofs.row_check.Statement.{statement}
 use Rattle.table.proofs.row_check.Tie as tie

@@ -1,6 +1,6 @@
 -- `table::table_check` meets its contract. The rows, then bytes left over.
 use Rattle.table.proofs.Checks.{rows-bad, rows-over, rows-whole}
-use mathlib.Core.Path.{_≡_, refl, sym, ap, _∙_}
+use mathlib.Core.Path.{_∙_}
 use native.Mathlib.Omega.{arith}
 use borrow.Author.Needs.{needs}
 use Rattle.table.proofs.table_check.Statement.{statement}

@@ -1,6 +1,6 @@
 -- `table::values_check` meets its contract. One law for each way out (proofs/Checks.antt).
 use Rattle.table.proofs.Checks.{core-unknown, read-falls, execute-falls, write-falls, none-falls}
-use mathlib.Core.Path.{_≡_, refl, sym, ap, _∙_}
+use mathlib.Core.Path.{_∙_}
 use borrow.Author.Needs.{needs}
 use Rattle.table.proofs.values_check.Statement.{statement}
 use Rattle.table.proofs.values_check.Tie as tie

@@ -1,10 +1,9 @@
 -- `table::write` meets its contract. Plan, then the table, then 8; the output is written last.
-use Rattle.model.proofs.ReadBack.{rows-length}
 use Rattle.model.specs.declared.Bus.{Bus}
 use Rattle.table.proofs.Entries.{write-unplanned, write-bad, write-short, write-done, given-length, given-core}
 use Rattle.plan.proofs.Whole.{plan-refused, plan-known}
 use native.Mathlib.Omega.{arith}
-use mathlib.Core.Path.{_≡_, refl, sym, ap, _∙_}
+use mathlib.Core.Path.{sym, ap, _∙_}
 use borrow.Author.Needs.{needs}
 use Rattle.table.proofs.write.Statement.{statement}
 use Rattle.table.proofs.write.Tie as tie

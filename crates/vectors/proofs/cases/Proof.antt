@@ -1,7 +1,6 @@
 -- `vectors::cases` meets its contract. Each case ends behind its begin.
 use lib.ListN.{length}
 use Prim.Native.Nat.{_≤_, _-_}
-use native.Mathlib.Omega.{arith}
 use borrow.Author.Needs.{needs}
 use Rattle.vectors.proofs.cases.Statement.{statement}
 use Rattle.vectors.proofs.cases.Tie as tie

@@ -1,7 +1,7 @@
 -- `verifier::cross_at` meets its contract. Core and marks are read, then judged.
 use Rattle.model.specs.Table.{ofNumbers}
 use Prim.Native.Nat.{min, max}
-use mathlib.Core.Path.{_≡_, refl, sym, ap, _∙_}
+use mathlib.Core.Path.{ap, _∙_}
 use Rattle.verifier.proofs.Checks.{cross-is}
 use borrow.Author.Needs.{needs}
 use Rattle.verifier.proofs.cross_at.Statement.{statement}

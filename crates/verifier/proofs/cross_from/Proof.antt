@@ -6,8 +6,7 @@ use Rattle.model.proofs.Refusals.{first-good, first-bad, first-end}
 use Rattle.model.specs.declared.Check.the-variants.{Good}
 use Rattle.model.specs.Refusals.{firstBad}
 use Prim.Native.Nat.{_≤_, _<_, _-_}
-use mathlib.Core.Path.{_≡_, sym, ap, _∙_}
-use native.Mathlib.Omega.{arith}
+use mathlib.Core.Path.{_≡_}
 use borrow.Author.Needs.{needs}
 use Rattle.verifier.proofs.cross_from.Statement.{statement}
 use Rattle.verifier.proofs.cross_from.Tie as tie

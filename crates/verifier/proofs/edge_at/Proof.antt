@@ -1,6 +1,5 @@
 -- `verifier::edge_at` meets its contract. The two marks are read, then judged.
 use native.Mathlib.Omega.{arith}
-use mathlib.Core.Path.{_≡_, refl, sym, ap, _∙_}
 use Rattle.verifier.proofs.Checks.{edge-is}
 use borrow.Author.Needs.{needs}
 use Rattle.verifier.proofs.edge_at.Statement.{statement}

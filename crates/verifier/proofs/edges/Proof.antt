@@ -8,7 +8,7 @@ use Rattle.model.specs.declared.Check.the-variants.{Good}
 use Rattle.model.specs.Refusals.{firstBad}
 use Rattle.model.specs.Below.{joinBelow}
 use Prim.Native.Nat.{_≤_, _-_}
-use mathlib.Core.Path.{_≡_, sym}
+use mathlib.Core.Path.{_≡_}
 use native.Mathlib.Omega.{arith}
 use borrow.Author.Needs.{needs}
 use Rattle.verifier.proofs.edges.Statement.{statement}

@@ -1,5 +1,5 @@
 -- `verifier::execute_at` meets its contract. The two marks and the execute time are read, then judged.
-use mathlib.Core.Path.{_≡_, refl, sym, ap, _∙_}
+use mathlib.Core.Path.{_∙_}
 use Rattle.verifier.proofs.Checks.{execute-is}
 use borrow.Author.Needs.{needs}
 use Rattle.verifier.proofs.execute_at.Statement.{statement}

@@ -3,11 +3,10 @@ use Rattle.verifier.proofs.Judging.{unplanned, unread, given-all, given
 use Rattle.model.specs.declared.Bus.{Bus}
 use Rattle.model.proofs.ReadBack.{rows-length}
 use Rattle.model.proofs.Below.{take-count}
-use Prim.Native.Nat.{_*_}
 use Rattle.plan.proofs.Whole.{plan-refused, plan-known, plan-fronts, fronts-plan}
 use Rattle.verifier.proofs.Judging.{unplanned, unread, given-all, given-long, judged-rules}
 use native.Mathlib.Omega.{arith}
-use mathlib.Core.Path.{_≡_, refl, sym, ap, _∙_}
+use mathlib.Core.Path.{sym, ap, _∙_}
 use borrow.Author.Needs.{needs}
 use Rattle.verifier.proofs.judge.Statement.{statement}
 use Rattle.verifier.proofs.judge.Tie as tie

@@ -2,9 +2,8 @@
 use Rattle.model.proofs.Below.{join-step, join-end}
 use Rattle.model.specs.Table.{ofNumbers}
 use Rattle.model.specs.Below.{joinBelow, maxBelow}
-use Prim.Native.Nat.{_≤_, _<_, _-_, max}
-use mathlib.Core.Path.{_≡_, sym, ap, _∙_}
-use native.Mathlib.Omega.{arith}
+use Prim.Native.Nat.{_≤_, _-_, max}
+use mathlib.Core.Path.{_≡_, _∙_}
 use borrow.Author.Needs.{needs}
 use Rattle.verifier.proofs.makespan.Statement.{statement}
 use Rattle.verifier.proofs.makespan.Tie as tie

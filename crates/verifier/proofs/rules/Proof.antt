@@ -2,7 +2,7 @@
 use Rattle.model.specs.Table.{ofNumbers}
 use Rattle.verifier.proofs.Ruling.{edges-there, between, rules-spans, loads-plan, loads-most, sized, rules-windows, rules-good}
 use native.Mathlib.Omega.{arith}
-use mathlib.Core.Path.{_≡_, refl, sym, ap, _∙_}
+use mathlib.Core.Path.{ap}
 use borrow.Author.Needs.{needs}
 use Rattle.verifier.proofs.rules.Statement.{statement}
 use Rattle.verifier.proofs.rules.Tie as tie

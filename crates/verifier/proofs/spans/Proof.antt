@@ -3,7 +3,6 @@ use lib.ListN.{length}
 use Rattle.model.specs.Table.{ofNumbers}
 use Rattle.verifier.proofs.Ruling.{spans-executes, spans-edges, spans-crosses, edge-marks}
 use native.Mathlib.Omega.{arith}
-use mathlib.Core.Path.{_≡_, refl, sym, ap, _∙_}
 use borrow.Author.Needs.{needs}
 use Rattle.verifier.proofs.spans.Statement.{statement}
 use Rattle.verifier.proofs.spans.Tie as tie
