@@ -2,9 +2,10 @@
  * Nizumokage: start-time tables of a flight computer whose cores share one round-robin bus. C11 and C++.
  *
  * Each function takes every input and ends. It reads the slices that it is given and writes only to `out`; it keeps no state,
- * allocates nothing and calls nothing, so several threads may call it at once, each with an `out` of its own that overlaps
- * no other argument. A slice is a pointer and a number of elements; the pointer may be NULL where the number is 0, and must
- * otherwise be aligned for its elements. Stack: 14 KiB are enough for nz_make, 9 KiB for each of the others (docs/SPEED.md).
+ * allocates nothing and calls nothing but memcpy and memset, so several threads may call it at once, each with an `out` of its
+ * own that overlaps no other argument. A slice is a pointer and a number of elements; the pointer may be NULL where the number
+ * is 0, and must otherwise be aligned for its elements. Stack: 12 KiB are enough for nz_make, 10 KiB for nz_verify and nz_run,
+ * 3 KiB for nz_read and nz_write (docs/SPEED.md).
  *
  * Each answer is `number` 0, and then `value` is the makespan where one is named; or `number` is the refusal, `side` the input
  * it speaks of and `place` a byte offset in it, or an index (NZ_WORDS_WRONG). A refusal changes nothing in `out`; a success
