@@ -1,14 +1,14 @@
 -- The three demands hold (`demand-1`, `demand-2`, `demand-3`), by the theorems of the rooms. Assumes nothing.
 use mathlib.Core.Path.{_≡_, refl, sym, ap, _∙_}
 use mathlib.Core.List.{List, _++_}
-use Prim.Native.Nat.{ℕ, _*_, _-_, _≤_}
+use Prim.Native.Nat.{ℕ, _*_, _≤_}
 use native.Mathlib.Omega.{arith}
 use lib.ListN.{length, drop, length-append, length-drop}
 use lib.Seq.{drop-append-seam}
 use borrow.Author.Tests.{ltb-false}
 use lib.Dec.{ltb}
 use Rattle.model.specs.Below.{at}
-use Rattle.model.specs.Refusals.{Outcome, gives, refuses, andThen, orElse}
+use Rattle.model.specs.Refusals.{Outcome, gives, refuses, orElse}
 use Rattle.model.specs.Plan.{Plan, tasks, cores}
 use Rattle.model.specs.Graph.{planOf}
 use Rattle.model.specs.Table.{ofNumbers, ofBytes, numbersAt, numbers, bytesAt, bytes, tableOf, tableCheck, valuesCheck, fourBytes, fieldBytes}
@@ -16,7 +16,7 @@ use Rattle.model.specs.Contention.{phasesOf}
 use Rattle.model.specs.Rules.{rulesCheck}
 use Rattle.model.specs.BusRule.{Use, answers}
 use Rattle.model.specs.ListRule.{madeBytes, madeMakespan}
-use Rattle.model.specs.Answers.{Judged, judged, onto, room, making, madeBy, madeOf, madeOutput, writing, writtenBy, writtenOf, writtenOutput, decoding, decodedBy, decodedOf, decodedOutput, playing, playedBy, playedOf, playedOutput, servedCheck, wordsCheck}
+use Rattle.model.specs.Answers.{Judged, judged, verdictBy, verdictOf, room, making, madeBy, madeOf, madeOutput, writing, writtenBy, writtenOf, writtenOutput, decoding, decodedBy, decodedOf, decodedOutput, playing, playedBy, playedOf, playedOutput, servedCheck, wordsCheck}
 use Rattle.model.specs.declared.Refusal.{Refusal}
 use Rattle.model.specs.declared.Check.the-variants.{Good}
 use Rattle.model.specs.declared.Time.{Time}
@@ -28,13 +28,14 @@ use Rattle.model.specs.declared.Played.{Played}
 use Rattle.model.proofs.Refusals.{passed, and-then, or-good, not-refused}
 use Rattle.model.proofs.RoundTrip.{blocks-length}
 use Rattle.model.proofs.Verdicts.{accepts-facts, accepts-test}
-use Rattle.model.proofs.Numbers.{numbered-some, verdict-most, rule-facts, rule-test}
+use Rattle.model.proofs.Numbers.{rule-facts, rule-test}
 use Rattle.model.proofs.MakeVerify.{verify-made}
 use Rattle.table.proofs.Trip.{read-write, write-read}
 use Rattle.guarantee.proofs.Verified.{verified}
 use Rattle.run.proofs.Ways.{answers-length}
 use Rattle.run.proofs.Obeying.{run-obeys}
 use Rattle.demands.specs.Demands.{Front, Demand1, Demand2, Demand3}
+use Rattle.demands.proofs.Numbers.{judged-has, reading-has, writing-has, making-has, playing-has}
 
 -- ---- a lent output: unchanged where nothing is given, and where a front is given that fits, changed there alone
 front-is : (front out : List ℕ) (n : ℕ) → length front ≡ n → n ≤ length out → Front n out (front ++ drop (length front) out)
@@ -49,22 +50,26 @@ room-fits : (n : ℕ) (out : List ℕ) → room n out ≡ Good → n ≤ length 
 unfolding room
 room-fits n out g = ltb-false (length out) n (not-refused (ltb (length out) n) _ g)
 
--- an outcome whose answer is a refusal changes nothing; one whose answer is not, gives
-decoded-no : {r : Refusal} (o : Outcome (List ℕ)) → decodedBy o ≡ Decoded.Refused r → (out : List ℕ) → onto out o ≡ out
-decoded-no (gives v) e out = cc
-decoded-no (refuses r) e out = refl
+-- an outcome whose answer is a refusal refuses; one whose answer is not, gives
+verdict-no : {r : Refusal} (o : Outcome Judged) → verdictBy o ≡ Verdict.Refused r → o ≡ refuses r
+verdict-no (gives j) e = cc
+verdict-no (refuses r) e = cc
 
-written-no : {r : Refusal} (o : Outcome (List ℕ)) → writtenBy o ≡ Written.Refused r → (out : List ℕ) → onto out o ≡ out
-written-no (gives v) e out = cc
-written-no (refuses r) e out = refl
+decoded-no : {r : Refusal} (o : Outcome (List ℕ)) → decodedBy o ≡ Decoded.Refused r → o ≡ refuses r
+decoded-no (gives v) e = cc
+decoded-no (refuses r) e = cc
 
-played-no : {r : Refusal} (o : Outcome (List ℕ)) → playedBy o ≡ Played.Refused r → (out : List ℕ) → onto out o ≡ out
-played-no (gives v) e out = cc
-played-no (refuses r) e out = refl
+written-no : {r : Refusal} (o : Outcome (List ℕ)) → writtenBy o ≡ Written.Refused r → o ≡ refuses r
+written-no (gives v) e = cc
+written-no (refuses r) e = cc
 
-made-no : {r : Refusal} (o : Outcome Plan) → madeBy o ≡ Made.Refused r → (out : List ℕ) → onto out (andThen o (λ plan. gives (madeBytes plan))) ≡ out
-made-no (gives p) e out = cc
-made-no (refuses r) e out = refl
+made-no : {r : Refusal} (o : Outcome Plan) → madeBy o ≡ Made.Refused r → o ≡ refuses r
+made-no (gives p) e = cc
+made-no (refuses r) e = cc
+
+played-no : {r : Refusal} (o : Outcome (List ℕ)) → playedBy o ≡ Played.Refused r → o ≡ refuses r
+played-no (gives v) e = cc
+played-no (refuses r) e = cc
 
 decoded-yes : (o : Outcome (List ℕ)) → decodedBy o ≡ Decoded.Numbers → (v : List ℕ) × (o ≡ gives v)
 decoded-yes (gives v) e = (v, refl)
@@ -144,14 +149,19 @@ judged-plan p s j e =
 
 -- ---- the demands
 pub demand-1 : Demand1
-unfolding decodedOf decodedOutput writtenOf writtenOutput madeOf madeOutput playedOf playedOutput
+unfolding verdictOf decodedOf decodedOutput writtenOf writtenOutput madeOf madeOutput playedOf playedOutput
 demand-1 =
     record {
-      verify-numbers = λ p s r e. (numbered-some r, verdict-most p s r e);
-      read-refused = λ p s out r e. decoded-no (decoding p s out) e out;
-      write-refused = λ p v out r e. written-no (writing p v out) e out;
-      make-refused = λ p out r e. made-no (making p out) e out;
-      run-refused = λ p s served words out r e. played-no (playing p s served words out) e out;
+      verify-numbers = λ p s r e. rw (verdict-no (judged p s) e) at (judged-has p s);
+      read-numbers = λ p s out r e. rw (decoded-no (decoding p s out) e) at (reading-has p s out);
+      write-numbers = λ p v out r e. rw (written-no (writing p v out) e) at (writing-has p v out);
+      make-numbers = λ p out r e. rw (made-no (making p out) e) at (making-has p out);
+      run-numbers = λ p s served words out r e.
+          rw (played-no (playing p s served words out) e) at (playing-has p s served words out);
+      read-refused = λ p s out r e. rw (decoded-no (decoding p s out) e);
+      write-refused = λ p v out r e. rw (written-no (writing p v out) e);
+      make-refused = λ p out r e. rw (made-no (making p out) e);
+      run-refused = λ p s served words out r e. rw (played-no (playing p s served words out) e);
       read-front = read-gives;
       write-front = write-gives;
       make-front = λ p out m e.

@@ -4,6 +4,7 @@
 use Prim.Native.Nat.{ℕ, _*_, _≤_, _<_}
 use mathlib.Core.Path.{_≡_}
 use mathlib.Core.List.{List, _++_}
+use mathlib.Core.Logic.{_⊎_}
 use lib.ListN.{length, drop}
 use Rattle.model.specs.Below.{at}
 use Rattle.model.specs.Refusals.{numberOf, gives}
@@ -14,6 +15,8 @@ use Rattle.model.specs.Contention.{phasesOf}
 use Rattle.model.specs.BusRule.{Use, answers}
 use Rattle.model.specs.ListRule.{madeBytes, madeMakespan}
 use Rattle.model.specs.Answers.{Judged, judged, Accepts, Breaks, verdictOf, decodedOf, decodedOutput, writtenOf, writtenOutput, madeOf, madeOutput, playedOf, playedOutput}
+use Rattle.model.specs.declared.Side.{Side}
+use Rattle.model.specs.declared.Side.the-variants.{OfNeither, OfPlan, OfTable}
 use Rattle.model.specs.declared.Refusal.{Refusal}
 use Rattle.model.specs.declared.Time.{Time}
 use Rattle.model.specs.declared.Verdict.{Verdict}
@@ -30,11 +33,36 @@ pub record Front (n : ℕ) (before after : List ℕ) : Type 0 where
   pub long : length after ≡ length before
   pub rest : drop n after ≡ drop n before
 
+-- a refusal that names a side, with a number from .. to
+abbrev pub Numbered : Side → ℕ → ℕ → Refusal → Type 0
+Numbered side from to r = (r .side ≡ side) × (from ≤ numberOf (r .fault)) × (numberOf (r .fault) ≤ to)
+
+-- the refusals of plan bytes, of table bytes and of the verifier, which has both and the rules. Document 01: "The side is plan
+-- for 5 to 7, table for 9 to 15, neither for 8, 16 and 17; for 1 to 4 it is the input being read."
+abbrev pub ByPlan : Refusal → Type 0
+ByPlan r = Numbered OfPlan 1 7 r
+
+abbrev pub ByTable : Refusal → Type 0
+ByTable r = Numbered OfTable 1 3 r ⊎ Numbered OfTable 9 11 r
+
+abbrev pub ByVerifier : Refusal → Type 0
+ByVerifier r = ByPlan r ⊎ ByTable r ⊎ Numbered OfTable 12 15 r
+
 -- 1. "The verifier, the schedule maker and the bus run take every byte string; each ends; bad input gets a refusal number, a
 -- side and a place, and nothing lent changes." (That each takes every input and ends is part of what a promise without
 -- `requires` says of a function.) "On success only the 20n bytes, or the 4n or 5n numbers, at the front change."
 pub record Demand1 : Type 0 where
-  pub verify-numbers : (p s : List ℕ) (r : Refusal) → verdictOf p s ≡ Verdict.Refused r → (1 ≤ numberOf (r .fault)) × (numberOf (r .fault) ≤ 15)
+  -- the numbers that each can refuse with, in document 01's order
+  pub verify-numbers : (p s : List ℕ) (r : Refusal) → verdictOf p s ≡ Verdict.Refused r → ByVerifier r
+  pub read-numbers :
+      (p s out : List ℕ) (r : Refusal) → decodedOf p s out ≡ Decoded.Refused r → ByPlan r ⊎ ByTable r ⊎ Numbered OfNeither 8 8 r
+  pub write-numbers :
+      (p v out : List ℕ) (r : Refusal) → writtenOf p v out ≡ Written.Refused r
+      → ByPlan r ⊎ Numbered OfTable 9 11 r ⊎ Numbered OfNeither 8 8 r
+  pub make-numbers : (p out : List ℕ) (r : Refusal) → madeOf p out ≡ Made.Refused r → ByPlan r ⊎ Numbered OfNeither 8 8 r
+  pub run-numbers :
+      (p s : List ℕ) (served : ℕ) (words out : List ℕ) (r : Refusal) → playedOf p s served words out ≡ Played.Refused r
+      → ByVerifier r ⊎ Numbered OfNeither 16 16 r ⊎ Numbered OfNeither 17 17 r ⊎ Numbered OfNeither 8 8 r
   pub read-refused : (p s out : List ℕ) (r : Refusal) → decodedOf p s out ≡ Decoded.Refused r → decodedOutput p s out ≡ out
   pub write-refused : (p v out : List ℕ) (r : Refusal) → writtenOf p v out ≡ Written.Refused r → writtenOutput p v out ≡ out
   pub make-refused : (p out : List ℕ) (r : Refusal) → madeOf p out ≡ Made.Refused r → madeOutput p out ≡ out
