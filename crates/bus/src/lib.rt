@@ -1,5 +1,7 @@
 // The bus run: a table's phases played grant by grant, with each phase's end and waits as the answer. The phases are columns; beside
 // them stand the words that each phase has left, and each core's head: of its phases with words left the one that starts first.
+#![tactic(auto)]
+
 ghost use Rattle.std.specs.Prelude.{◌≡◌, ◌++◌, ◌+◌, ◌*◌, ◌<◌, ◌≤◌, min, length, drop};
 ghost use Rattle.model.specs.Below.{at, list_below};
 ghost use Rattle.model.specs.Counts.{D, Settings};

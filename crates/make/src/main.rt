@@ -1,5 +1,7 @@
 // Makes a table of the plan on standard input: prints `makespan` and the makespan, then a line for each task, its number, core,
 // R, E, W and F; or `refused`, the number and the place.
+#![tactic(auto)]
+
 ghost use Rattle.std.specs.Prelude.{◌*◌, ◌≤◌, ◌<◌, length};
 
 use model::Made;

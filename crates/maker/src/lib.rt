@@ -1,5 +1,7 @@
 // The schedule maker: a plan's table by the list rule. Tasks are met by their place in the list order, in columns; phase 2a is
 // the read of place a, 2a + 1 its write.
+#![tactic(auto)]
+
 ghost use Rattle.std.specs.Prelude.{◌≡◌, ◌++◌, cond, ℕ, ◌+◌, ◌*◌, ◌-◌, ◌/◌, ◌≤◌, ◌<◌, length, take, drop, set};
 ghost use Rattle.model.specs.Below.{at, list_below, best_below};
 ghost use Rattle.model.specs.Graph.{place_of};

@@ -1,4 +1,6 @@
 // The C interface (include/nizumokage.h): the five entry points, with their answers by value. A slice is a pointer and a length.
+#![tactic(auto)]
+
 ghost use Rattle.std.specs.Prelude.{◌≡◌, [], ◌∷◌};
 ghost use Rattle.model.specs.Answers.{says_no, says_yes, verdict_says, made_says, written_says, decoded_says, played_says};
 ghost use Rattle.model.specs.Answers.{verdict_of, made_of, made_output, written_of, written_output, decoded_of, decoded_output, played_of, played_output};
@@ -8,7 +10,7 @@ use model::{Decoded, Made, Played, Refusal, Side, Verdict, Written};
 
 // `struct nz_answer`.
 #[repr(C)]
-#[derive(Drop)]
+#[derive(Clone, Copy)]
 pub struct Answer {
     pub number: u32,
     pub side: u32,

@@ -1,5 +1,7 @@
 // Step 2 of the list rule: the windows of a candidate's phases, placed in list order. Columns are by phase as everywhere:
 // phase 2a is place a's read, 2a + 1 its write.
+#![tactic(auto)]
+
 ghost use Rattle.std.specs.Prelude.{◌≡◌, cond, ◌++◌, ℕ, ◌+◌, ◌*◌, ◌-◌, ◌≤◌, ◌<◌, max, length, take, drop, set};
 ghost use Rattle.model.specs.Below.{at, max_below};
 ghost use Rattle.model.specs.ListRule.{LeastFree, placed};

@@ -1,4 +1,6 @@
 // The plan reader: one step over the fields, the parser over it, the list order and the cycle test.
+#![tactic(auto)]
+
 ghost use Rattle.std.specs.Prelude.{◌≡◌, ℕ, ◌+◌, ◌<◌, ◌≤◌, min, length, not, ◌||◌, ltb, leb};
 ghost use Rattle.model.specs.Below.{at};
 ghost use Rattle.model.specs.Field.{two, plan_body, table_body, body_of, step_in, plan_step, place_after};
@@ -262,7 +264,7 @@ pub fn place_after(plan: &[u8], at: usize) -> usize
 }
 
 // The reader: it holds the lent plan bytes and its position. Each function over it is thin, and proved by a walk.
-#[derive(Drop)]
+#[derive(Clone, Copy)]
 pub struct Reader<'a> {
     pub plan: &'a [u8],
     pub at: usize,
@@ -347,7 +349,7 @@ fn field_of(plan: &[u8], seen: Seen) -> Taken
 }
 
 // What is known of a plan beside its columns: the bus, the number of tasks and of edges.
-#[derive(Drop)]
+#[derive(Clone, Copy)]
 pub struct Shape {
     pub bus: Bus,
     pub tasks: usize,
@@ -355,7 +357,7 @@ pub struct Shape {
 }
 
 // What the fields come to: the first refusal, if there is one, and what was read before.
-#[derive(Drop)]
+#[derive(Clone, Copy)]
 pub struct Parsed {
     pub check: Check,
     pub shape: Shape,
@@ -587,7 +589,7 @@ fn list_order(
 
 // A decoded plan: its execute times and its list order by task, its sources, targets and words by edge, each from the
 // front of its column.
-#[derive(Drop)]
+#[derive(Clone, Copy)]
 pub struct Columns {
     pub bus: Bus,
     pub tasks: usize,
@@ -600,7 +602,7 @@ pub struct Columns {
 }
 
 // What reading a plan comes to: the first refusal, if there is one, and the plan; of a refused one, what was read before.
-#[derive(Drop)]
+#[derive(Clone, Copy)]
 pub struct PlanRead {
     pub check: Check,
     pub columns: Columns,

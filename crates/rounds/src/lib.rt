@@ -1,5 +1,7 @@
 // The rounds of a candidate of the list rule, from its choices to its settled windows. Columns are by phase as everywhere: phase
 // 2a is place a's read, 2a + 1 its write.
+#![tactic(auto)]
+
 ghost use Rattle.std.specs.Prelude.{◌≡◌, ◌++◌, ℕ, ◌+◌, ◌*◌, ◌-◌, ◌/◌, ◌≤◌, ◌<◌, max, ltb, length, drop, set};
 ghost use Rattle.model.specs.Below.{at, max_below, any_below, list_below};
 ghost use Rattle.model.specs.Counts.{delay as delayOf, most_words, Settings};

@@ -1,4 +1,6 @@
 // The bus run: a table that the verifier accepts, played with a core served last and actual word counts.
+#![tactic(auto)]
+
 ghost use Rattle.std.specs.Prelude.{◌≡◌, ◌≤◌, ◌<◌, length};
 ghost use Rattle.model.specs.Below.{first_below};
 ghost use Rattle.model.specs.Refusals.{refuse_if};

@@ -1,4 +1,6 @@
 // What the programs print, on standard output.
+#![tactic(auto)]
+
 use model::Refusal;
 
 // A word and a number after a blank.

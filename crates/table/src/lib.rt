@@ -1,4 +1,6 @@
 // A table's bytes, both ways, and its numbers in working memory: core, R, E, W, F of each task, one after the other.
+#![tactic(auto)]
+
 ghost use Rattle.std.specs.Prelude.{◌≡◌, ℕ, ◌+◌, ◌*◌, ◌/◌, ◌≤◌, ◌<◌, [], ◌∷◌, ◌++◌, length, drop};
 ghost use Rattle.model.specs.Below.{at, stored};
 ghost use Rattle.model.specs.Field.{four};

@@ -1,5 +1,7 @@
 // Runs cases from standard input and prints what the functions answer, a line for each. A case is a kind and three blocks; a block
 // is a two-byte length and bytes. tests/vectors/gen.py writes the cases, and what an independent program says of them.
+#![tactic(auto)]
+
 ghost use Rattle.std.specs.Prelude.{◌+◌, ◌<◌, ◌≤◌, length};
 
 mod plans;
@@ -8,7 +10,7 @@ mod tables;
 mod text;
 
 // A block: where its bytes begin and end. One that is cut ends with the input.
-#[derive(Drop)]
+#[derive(Clone, Copy)]
 struct Part {
     from: usize,
     to: usize,

@@ -1,4 +1,6 @@
 // The verifier: the windows of a table judged by every rule, on a plan's columns and a table's numbers.
+#![tactic(auto)]
+
 ghost use Rattle.std.specs.Prelude.{◌≡◌, ◌++◌, ℕ, ◌+◌, ◌*◌, ◌/◌, ◌≤◌, ◌<◌, min, length, drop};
 ghost use Rattle.model.specs.Below.{at, list_below};
 ghost use Rattle.model.specs.Counts.{most_words, Settings};
@@ -245,7 +247,7 @@ fn spans(costs: &[u16], sources: &[u8], targets: &[u8], table: &[u32]) -> Check
 }
 
 // What the rules say of a table: its makespan, with what of the plan its phases are read by, or the first refusal.
-#[derive(Drop)]
+#[derive(Clone, Copy)]
 pub enum Judgement {
     Obeys {
         bus: Bus,

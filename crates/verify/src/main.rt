@@ -1,5 +1,7 @@
 // Judges table.bin by plan.bin, both in the current folder: prints `accepted` and the makespan, or `refused`, the number
 // and the place.
+#![tactic(auto)]
+
 ghost use Rattle.io.specs.Counts.{IsPrefixLen};
 
 use model::Verdict;
