@@ -1,0 +1,11 @@
+-- `contention::ahead_to` meets its contract. It goes up from x, and stops where the entry is not before `to`.
+use Prim.Native.Nat.{◌-◌, ◌≤◌}
+use native.Mathlib.Omega.{arith}
+use borrow.Author.Rules.{rules}
+use Rattle.contention.proofs.ahead_to.Goals as goal
+
+pub returns-then-to-lows : goal.returns-then-to-lows
+returns-then-to-lows c = (omega arith, omega arith, λ _. c.if-to-lows.true)
+
+pub returns : goal.returns
+returns c = (omega arith, omega arith, λ l. absurd (omega arith))

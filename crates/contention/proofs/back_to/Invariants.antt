@@ -1,0 +1,14 @@
+-- `contention::back_to` meets its contract. What is passed over is above `from`.
+use Rattle.contention.specs.Columns.{back_to}
+use Rattle.contention.proofs.Ranges.{back_none, back_here, back_past}
+use Prim.Native.Nat.{◌≤◌}
+use mathlib.Core.Path.{◌≡◌, refl, ◌∙◌}
+use native.Mathlib.Omega.{arith}
+use borrow.Author.Rules.{rules}
+use Rattle.contention.proofs.back_to.Given as goal
+
+abbrev pub invariant-loop-lo : goal.invariant-loop-lo
+invariant-loop-lo l = (l.lo ≤ l.x) × (back_to l.tops l.from l.lo ≡ back_to l.tops l.from l.x)
+
+abbrev pub decreases-loop-lo : goal.decreases-loop-lo
+decreases-loop-lo l = l.lo

@@ -1,0 +1,17 @@
+-- `contention::clear` meets its contract. The entries passed are 0.
+use Rattle.contention.proofs.Columns.{is_column}
+use Rattle.model.proofs.Below.{fill_none, fill_step}
+use Rattle.model.specs.Below.{list_below}
+use lib.ListN.{drop}
+use mathlib.Core.List.{◌++◌}
+use Prim.Native.Nat.{◌-◌, ◌≤◌}
+use mathlib.Core.Path.{◌≡◌, refl}
+use native.Mathlib.Omega.{arith}
+use borrow.Author.Rules.{rules}
+use Rattle.contention.proofs.clear.Given as goal
+
+abbrev pub invariant-loop-x : goal.invariant-loop-x
+invariant-loop-x l = (l.x ≤ l.count) × (l.words ≡ list_below (λ y. 0) l.x ++ drop l.x l.initial.words)
+
+abbrev pub decreases-loop-x : goal.decreases-loop-x
+decreases-loop-x l = l.count - l.x
