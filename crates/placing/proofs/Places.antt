@@ -3,7 +3,7 @@
 use mathlib.Core.Path.{◌≡◌, refl, sym, ap, ◌∙◌}
 use mathlib.Core.Bool.{Bool, true, false, cond, not, ◌||◌}
 use mathlib.Core.List.{List, ◌++◌}
-use Prim.Native.Nat.{ℕ, zero, suc, ◌+◌, ◌*◌, ◌-◌, ◌%◌, ◌≤◌, ◌<◌, max, zero-le}
+use Prim.Native.Nat.{ℕ, zero, suc, ◌+◌, ◌*◌, ◌%◌, ◌≤◌, ◌<◌, max, zero-le}
 use native.Mathlib.Nat.{le_refl}
 use native.Mathlib.Omega.{arith}
 use lib.ListN.{length, take, drop, set, replicate, length-set, length-replicate}
@@ -11,7 +11,6 @@ use lib.Seq.{get_or-take, get_or-set_same, get_or-set_other}
 use lib.Dec.{ltb, eqb}
 use borrow.Author.Tests.{eqb-true, eq-eqb, ne_eqb, le-ltb, ltb-false}
 use Rattle.model.specs.Below.{at, join_below, max_below, any_below}
-use Rattle.model.specs.Plan.{cost}
 use Rattle.model.specs.Table.{Table}
 use Rattle.model.specs.Contention.{Phases, of_phase, phases_in}
 use Rattle.model.specs.Rules.{makespan}

@@ -1,0 +1,11 @@
+-- `table::phase_end` meets its contract. By the phase's kind.
+use Rattle.model.proofs.Contention.{of_read, of_write}
+use mathlib.Core.Path.{sym, ◌∙◌}
+use borrow.Author.Rules.{rules}
+use Rattle.table.proofs.phase_end.Goals as goal
+
+pub returns-then-x-eq0 : goal.returns-then-x-eq0
+returns-then-x-eq0 c = c.execute_start.ensures ∙ sym (of_read _ _ _ c.if-x-eq0.true)
+
+pub returns : goal.returns
+returns c = c.end_at.ensures ∙ sym (of_write _ _ _ c.if-x-eq0.false)

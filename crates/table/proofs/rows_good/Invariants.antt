@@ -1,0 +1,16 @@
+-- `table::rows_good` meets its contract. A loop over a check.
+use Rattle.model.specs.Table.{row_at}
+use Rattle.model.proofs.Refusals.{first_good, first_bad_lem, first_end}
+use Rattle.model.specs.declared.Check.TheVariants.{Good}
+use Rattle.model.specs.Refusals.{first_bad}
+use Rattle.model.specs.Below.{join_below}
+use Prim.Native.Nat.{◌≤◌, ◌-◌}
+use mathlib.Core.Path.{◌≡◌}
+use borrow.Author.Rules.{rules}
+use Rattle.table.proofs.rows_good.Given as goal
+
+abbrev pub invariant-loop-i : goal.invariant-loop-i
+invariant-loop-i l = (l.i ≤ l.tasks) × (first_bad (row_at l.cores l.s) l.i ≡ Good)
+
+abbrev pub decreases-loop-i : goal.decreases-loop-i
+decreases-loop-i l = l.tasks - l.i
