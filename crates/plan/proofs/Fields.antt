@@ -9,7 +9,7 @@ use lib.Dec.{eqb}
 use lib.ListN.{length, set, drop}
 use lib.Seq.{sets, sets-eq, length-sets}
 use borrow.Author.Tests.{lt-ltb, ne_eqb}
-use Rattle.model.specs.Plan.{Plan, Reading, tasks, edges, cores, key_of, field_of, no_plan, with_bus, with_task, with_edge, least_key, on_with, reading_from, reading_of}
+use Rattle.model.specs.Plan.{Plan, Reading, tasks, edges, key_of, field_of, no_plan, with_bus, with_task, with_edge, least_key, on_with, reading_from, reading_of}
 use Rattle.model.specs.Plan.{seen as seenOf}
 use Rattle.model.specs.declared.Bus.{Bus}
 use Rattle.model.specs.declared.Refusal.{Refusal}

@@ -11,7 +11,6 @@ use lib.Dec.{ltb}
 use borrow.Author.Tests.{ltb-false}
 use Rattle.model.specs.Below.{at, any_below, list_below}
 use Rattle.model.specs.Counts.{most_words, Settings}
-use Rattle.model.specs.Plan.{cores}
 use Rattle.model.specs.Contention.{Phases, of_phase, phases_in}
 use Rattle.model.specs.Rules.{delay_at}
 use Rattle.model.specs.ListRule.{Candidate, core_in, placed, grown, rounds, settled}

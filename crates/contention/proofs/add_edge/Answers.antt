@@ -1,6 +1,5 @@
 -- `contention::add_edge` meets its contract. An edge that moves words is between known tasks.
 use Rattle.contention.proofs.Loads.{with_none, with_some, ready_to_raise}
-use borrow.Author.Rules.{rules}
 use Rattle.contention.proofs.add_edge.Goals as goal
 
 pub returns-then-moved-eq0 : goal.returns-then-moved-eq0

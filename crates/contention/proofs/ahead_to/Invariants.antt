@@ -1,7 +1,5 @@
 -- `contention::ahead_to` meets its contract. It goes up from x, and stops where the entry is not before `to`.
 use Prim.Native.Nat.{◌-◌, ◌≤◌}
-use native.Mathlib.Omega.{arith}
-use borrow.Author.Rules.{rules}
 use Rattle.contention.proofs.ahead_to.Given as goal
 
 abbrev pub invariant-loop-hi : goal.invariant-loop-hi

@@ -1,8 +1,6 @@
 -- `contention::back_to` meets its contract. What is passed over is above `from`.
-use Rattle.contention.specs.Columns.{back_to}
 use Rattle.contention.proofs.Ranges.{back_none, back_here, back_past}
-use Prim.Native.Nat.{◌≤◌}
-use mathlib.Core.Path.{◌≡◌, refl, ◌∙◌}
+use mathlib.Core.Path.{refl, ◌∙◌}
 use native.Mathlib.Omega.{arith}
 use borrow.Author.Rules.{rules}
 use Rattle.contention.proofs.back_to.Goals as goal

@@ -1,10 +1,7 @@
 -- `contention::back_to` meets its contract. What is passed over is above `from`.
 use Rattle.contention.specs.Columns.{back_to}
-use Rattle.contention.proofs.Ranges.{back_none, back_here, back_past}
 use Prim.Native.Nat.{◌≤◌}
-use mathlib.Core.Path.{◌≡◌, refl, ◌∙◌}
-use native.Mathlib.Omega.{arith}
-use borrow.Author.Rules.{rules}
+use mathlib.Core.Path.{◌≡◌}
 use Rattle.contention.proofs.back_to.Given as goal
 
 abbrev pub invariant-loop-lo : goal.invariant-loop-lo

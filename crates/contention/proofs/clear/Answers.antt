@@ -1,10 +1,6 @@
 -- `contention::clear` meets its contract. The entries passed are 0.
 use Rattle.contention.proofs.Columns.{is_column}
 use Rattle.model.proofs.Below.{fill_none, fill_step}
-use Rattle.model.specs.Below.{list_below}
-use lib.ListN.{drop}
-use mathlib.Core.List.{◌++◌}
-use Prim.Native.Nat.{◌-◌, ◌≤◌}
 use mathlib.Core.Path.{◌≡◌, refl}
 use native.Mathlib.Omega.{arith}
 use borrow.Author.Rules.{rules}

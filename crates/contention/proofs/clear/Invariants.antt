@@ -1,13 +1,9 @@
 -- `contention::clear` meets its contract. The entries passed are 0.
-use Rattle.contention.proofs.Columns.{is_column}
-use Rattle.model.proofs.Below.{fill_none, fill_step}
 use Rattle.model.specs.Below.{list_below}
 use lib.ListN.{drop}
 use mathlib.Core.List.{◌++◌}
 use Prim.Native.Nat.{◌-◌, ◌≤◌}
-use mathlib.Core.Path.{◌≡◌, refl}
-use native.Mathlib.Omega.{arith}
-use borrow.Author.Rules.{rules}
+use mathlib.Core.Path.{◌≡◌}
 use Rattle.contention.proofs.clear.Given as goal
 
 abbrev pub invariant-loop-x : goal.invariant-loop-x

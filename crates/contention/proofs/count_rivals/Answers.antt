@@ -2,7 +2,6 @@
 use Rattle.model.specs.Below.{at}
 use Rattle.contention.proofs.Ranges.{back_le, rivals_between}
 use native.Mathlib.Omega.{arith}
-use borrow.Author.Rules.{rules}
 use Rattle.contention.proofs.count_rivals.Goals as goal
 
 pub near_between-n-requires : goal.near_between-n-requires

@@ -2,11 +2,8 @@
 use Rattle.contention.proofs.Columns.{fill_length, fill_end}
 use Rattle.contention.specs.Columns.{close_of}
 use Rattle.model.proofs.Below.{fill_none, fill_step}
-use Rattle.model.specs.Below.{at, list_below}
-use lib.ListN.{drop}
-use mathlib.Core.List.{◌++◌}
-use Prim.Native.Nat.{ℕ, ◌-◌, ◌≤◌}
-use mathlib.Core.Path.{◌≡◌}
+use Rattle.model.specs.Below.{at}
+use Prim.Native.Nat.{ℕ}
 use native.Mathlib.Omega.{arith}
 use borrow.Author.Rules.{rules}
 use Rattle.contention.proofs.fill_closes.Goals as goal

@@ -1,14 +1,10 @@
 -- `contention::fill_closes` meets its contract. The closes passed are in place.
-use Rattle.contention.proofs.Columns.{fill_length, fill_end}
 use Rattle.contention.specs.Columns.{close_of}
-use Rattle.model.proofs.Below.{fill_none, fill_step}
 use Rattle.model.specs.Below.{at, list_below}
 use lib.ListN.{drop}
 use mathlib.Core.List.{◌++◌}
-use Prim.Native.Nat.{ℕ, ◌-◌, ◌≤◌}
+use Prim.Native.Nat.{◌-◌, ◌≤◌}
 use mathlib.Core.Path.{◌≡◌}
-use native.Mathlib.Omega.{arith}
-use borrow.Author.Rules.{rules}
 use Rattle.contention.proofs.fill_closes.Given as goal
 
 abbrev pub invariant-loop-y : goal.invariant-loop-y

@@ -3,11 +3,7 @@ use Rattle.contention.proofs.Columns.{fill_length, fill_end}
 use Rattle.contention.specs.Columns.{phases_by}
 use Rattle.model.specs.Rules.{delay_at}
 use Rattle.model.proofs.Below.{fill_none, fill_step}
-use Rattle.model.specs.Below.{list_below}
-use lib.ListN.{drop}
-use mathlib.Core.List.{◌++◌}
-use Prim.Native.Nat.{ℕ, ◌-◌, ◌≤◌}
-use mathlib.Core.Path.{◌≡◌}
+use Prim.Native.Nat.{ℕ}
 use native.Mathlib.Omega.{arith}
 use borrow.Author.Rules.{rules}
 use Rattle.contention.proofs.fill_delays.Goals as goal

@@ -1,15 +1,11 @@
 -- `contention::fill_delays` meets its contract. The delays passed are in place.
-use Rattle.contention.proofs.Columns.{fill_length, fill_end}
 use Rattle.contention.specs.Columns.{phases_by}
 use Rattle.model.specs.Rules.{delay_at}
-use Rattle.model.proofs.Below.{fill_none, fill_step}
 use Rattle.model.specs.Below.{list_below}
 use lib.ListN.{drop}
 use mathlib.Core.List.{◌++◌}
-use Prim.Native.Nat.{ℕ, ◌-◌, ◌≤◌}
+use Prim.Native.Nat.{◌-◌, ◌≤◌}
 use mathlib.Core.Path.{◌≡◌}
-use native.Mathlib.Omega.{arith}
-use borrow.Author.Rules.{rules}
 use Rattle.contention.proofs.fill_delays.Given as goal
 
 abbrev pub invariant-loop-x : goal.invariant-loop-x

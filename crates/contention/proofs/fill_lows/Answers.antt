@@ -1,8 +1,7 @@
 -- `contention::fill_lows` meets its contract. The least start of the phases passed from behind, and the lows passed are in place.
-use Rattle.contention.proofs.Ranges.{Least, Lows, least_again, lows_again}
-use lib.ListN.{length, length-set}
-use Prim.Native.Nat.{◌≤◌}
-use mathlib.Core.Path.{◌≡◌, refl}
+use Rattle.contention.proofs.Ranges.{least_again, lows_again}
+use lib.ListN.{length-set}
+use mathlib.Core.Path.{refl}
 use native.Mathlib.Omega.{arith}
 use borrow.Author.Rules.{rules}
 use Rattle.contention.proofs.fill_lows.Goals as goal

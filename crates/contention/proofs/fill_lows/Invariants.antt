@@ -1,10 +1,8 @@
 -- `contention::fill_lows` meets its contract. The least start of the phases passed from behind, and the lows passed are in place.
-use Rattle.contention.proofs.Ranges.{Least, Lows, least_again, lows_again}
-use lib.ListN.{length, length-set}
+use Rattle.contention.proofs.Ranges.{Least, Lows}
+use lib.ListN.{length}
 use Prim.Native.Nat.{◌≤◌}
-use mathlib.Core.Path.{◌≡◌, refl}
-use native.Mathlib.Omega.{arith}
-use borrow.Author.Rules.{rules}
+use mathlib.Core.Path.{◌≡◌}
 use Rattle.contention.proofs.fill_lows.Given as goal
 
 abbrev pub invariant-loop-y : goal.invariant-loop-y

@@ -1,13 +1,9 @@
 -- `contention::fill_tops` meets its contract. The greatest close passed, and the tops passed are in place.
-use Rattle.contention.proofs.Columns.{fill_length, fill_end}
-use Rattle.model.proofs.Below.{join_none, join_step, fill_none, fill_step}
 use Rattle.model.specs.Below.{at, max_below, list_below}
 use lib.ListN.{drop}
 use mathlib.Core.List.{◌++◌}
-use Prim.Native.Nat.{◌-◌, ◌≤◌, max}
-use mathlib.Core.Path.{◌≡◌, sym, ◌∙◌}
-use native.Mathlib.Omega.{arith}
-use borrow.Author.Rules.{rules}
+use Prim.Native.Nat.{◌-◌, ◌≤◌}
+use mathlib.Core.Path.{◌≡◌}
 use Rattle.contention.proofs.fill_tops.Given as goal
 
 abbrev pub invariant-loop-y : goal.invariant-loop-y

@@ -1,7 +1,6 @@
 -- `contention::moved_by` meets its contract. By its words and its tasks' cores.
 use Rattle.contention.proofs.Loads.{moved_none, moved_home, moved_away}
 use native.Mathlib.Omega.{arith}
-use borrow.Author.Rules.{rules}
 use Rattle.contention.proofs.moved_by.Goals as goal
 
 pub returns-then-amount-eq0 : goal.returns-then-amount-eq0

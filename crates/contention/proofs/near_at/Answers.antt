@@ -2,7 +2,6 @@
 use Rattle.model.specs.Below.{bit}
 use mathlib.Core.Path.{ap, ◌∙◌}
 use Rattle.contention.specs.Columns.{near_by}
-use borrow.Author.Rules.{rules}
 use Rattle.contention.proofs.near_at.Goals as goal
 
 pub returns : goal.returns

@@ -1,7 +1,5 @@
 -- `contention::near_between` meets its contract. What is counted up to y, but for what stands before lo.
-use Rattle.model.specs.Below.{count_below}
-use Prim.Native.Nat.{◌+◌, ◌-◌, ◌≤◌}
-use mathlib.Core.Path.{◌≡◌}
+use Prim.Native.Nat.{◌+◌}
 use Rattle.contention.proofs.Ranges.{between_again, between_fits}
 use Rattle.model.proofs.Below.{join_end}
 use Rattle.contention.specs.Columns.{near_by}

@@ -2,11 +2,7 @@
 use Rattle.model.specs.Below.{count_below}
 use Prim.Native.Nat.{◌+◌, ◌-◌, ◌≤◌}
 use mathlib.Core.Path.{◌≡◌}
-use Rattle.contention.proofs.Ranges.{between_again, between_fits}
-use Rattle.model.proofs.Below.{join_end}
 use Rattle.contention.specs.Columns.{near_by}
-use native.Mathlib.Omega.{arith}
-use borrow.Author.Rules.{rules}
 use Rattle.contention.proofs.near_between.Given as goal
 
 abbrev pub invariant-loop-y : goal.invariant-loop-y

@@ -1,6 +1,5 @@
 -- `contention::phase_delay` meets its contract. Without words there is no delay; else the delay rule, with the rivals counted.
 use Rattle.contention.proofs.Rivalry.{idle_phase, phase_delayed}
-use borrow.Author.Rules.{rules}
 use Rattle.contention.proofs.phase_delay.Goals as goal
 
 pub returns-then-own-eq0 : goal.returns-then-own-eq0

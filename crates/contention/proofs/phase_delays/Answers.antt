@@ -1,7 +1,6 @@
 -- `contention::phase_delays` meets its contract. The columns that bound where rivals lie, and the delays by them.
 use Rattle.contention.proofs.Ranges.{spread}
 use native.Mathlib.Omega.{arith}
-use borrow.Author.Rules.{rules}
 use Rattle.contention.proofs.phase_delays.Goals as goal
 
 pub fill_delays-requires : goal.fill_delays-requires

@@ -1,10 +1,7 @@
 -- `contention::phase_words` meets its contract. The words of the edges passed (proofs/Loads.antt).
 use lib.ListN.{length}
-use Prim.Native.Nat.{◌-◌, ◌*◌, ◌≤◌}
-use Rattle.contention.specs.Columns.{edges_by}
 use Rattle.model.specs.Below.{at}
-use Rattle.contention.proofs.Columns.{Column}
-use Rattle.contention.proofs.Loads.{part, loaded_none, loaded_length, loaded_ready, loaded_more, loaded_all}
+use Rattle.contention.proofs.Loads.{loaded_none, loaded_length, loaded_ready, loaded_more, loaded_all}
 use native.Mathlib.Omega.{arith}
 use borrow.Author.Rules.{rules}
 use Rattle.contention.proofs.phase_words.Goals as goal

@@ -4,9 +4,7 @@ use Prim.Native.Nat.{◌-◌, ◌*◌, ◌≤◌}
 use Rattle.contention.specs.Columns.{edges_by}
 use Rattle.model.specs.Below.{at}
 use Rattle.contention.proofs.Columns.{Column}
-use Rattle.contention.proofs.Loads.{part, loaded_none, loaded_length, loaded_ready, loaded_more, loaded_all}
-use native.Mathlib.Omega.{arith}
-use borrow.Author.Rules.{rules}
+use Rattle.contention.proofs.Loads.{part}
 use Rattle.contention.proofs.phase_words.Given as goal
 
 abbrev pub invariant-loop-e : goal.invariant-loop-e

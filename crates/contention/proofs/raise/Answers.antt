@@ -3,7 +3,6 @@ use Prim.Native.Nat.{◌+◌, ◌*◌}
 use Rattle.model.specs.Below.{at}
 use Rattle.contention.proofs.Loads.{raised_twice, other_entry}
 use native.Mathlib.Omega.{arith}
-use borrow.Author.Rules.{rules}
 use Rattle.contention.proofs.raise.Goals as goal
 
 pub overflow_add-words-2 : goal.overflow_add-words-2

@@ -2,7 +2,6 @@
 use Rattle.model.specs.declared.Seen.{Seen}
 use Prim.Native.Nat.{ℕ, ◌+◌}
 use mathlib.Core.Path.{ap}
-use borrow.Author.Rules.{rules}
 use Rattle.plan.proofs.after_edge.Goals as goal
 
 pub returns : goal.returns

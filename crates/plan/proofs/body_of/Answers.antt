@@ -4,7 +4,6 @@ use Rattle.model.specs.declared.Side.{Side}
 use Rattle.model.specs.Field.{body_of}
 use native.Mathlib.Omega.{arith}
 use mathlib.Core.Path.{sym, ap, ◌∙◌}
-use borrow.Author.Rules.{rules}
 use Rattle.plan.proofs.body_of.Goals as goal
 
 pub returns-in-OfPlan : goal.returns-in-OfPlan

@@ -1,10 +1,6 @@
 -- `plan::count_edges` meets its contract. The edges passed are counted (proofs/Counted.antt).
 use Rattle.plan.specs.Order.{Raised, edges_to}
-use Rattle.plan.proofs.Counted.{to_none, to_fits, to_next}
 use Prim.Native.Nat.{◌≤◌, ◌-◌}
-use mathlib.Core.Path.{◌≡◌}
-use native.Mathlib.Omega.{arith}
-use borrow.Author.Rules.{rules}
 use Rattle.plan.proofs.count_edges.Given as goal
 
 abbrev pub invariant-loop-e : goal.invariant-loop-e

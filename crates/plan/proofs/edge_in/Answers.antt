@@ -2,7 +2,6 @@
 use native.Mathlib.Omega.{arith}
 use mathlib.Core.Path.{◌∙◌}
 use Rattle.plan.proofs.Ways.{edge_many, edge_bad, edge_falls, edge_good_lem}
-use borrow.Author.Rules.{rules}
 use Rattle.plan.proofs.edge_in.Goals as goal
 
 pub returns-then-seen-ge256 : goal.returns-then-seen-ge256

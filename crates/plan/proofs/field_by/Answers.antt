@@ -4,7 +4,6 @@ use Rattle.model.specs.declared.Side.TheVariants.{OfPlan}
 use Rattle.model.specs.Plan.{field_by}
 use mathlib.Core.Path.{sym, ap, ◌∙◌}
 use native.Mathlib.Omega.{arith}
-use borrow.Author.Rules.{rules}
 use Rattle.plan.proofs.field_by.Goals as goal
 
 pub by_tag-requires : goal.by_tag-requires

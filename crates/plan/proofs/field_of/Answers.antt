@@ -1,7 +1,6 @@
 -- `plan::field_of` meets its contract. One law for each way out.
 use mathlib.Core.Path.{◌∙◌}
 use Rattle.plan.proofs.Ways.{field_cut, field_ordered, field_disordered}
-use borrow.Author.Rules.{rules}
 use Rattle.plan.proofs.field_of.Goals as goal
 
 pub returns-then-plan-at-lt3 : goal.returns-then-plan-at-lt3

@@ -1,10 +1,6 @@
 -- `plan::first_edge` meets its contract. The edge in the middle decides for all on one side of it (proofs/Counted.antt).
 use Rattle.plan.specs.Order.{Parts}
-use Rattle.plan.proofs.Counted.{parts_up, parts_down}
 use Prim.Native.Nat.{◌≤◌, ◌-◌}
-use mathlib.Core.Path.{◌≡◌}
-use native.Mathlib.Omega.{arith}
-use borrow.Author.Rules.{rules}
 use Rattle.plan.proofs.first_edge.Given as goal
 
 abbrev pub invariant-loop-low : goal.invariant-loop-low

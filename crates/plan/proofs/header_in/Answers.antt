@@ -1,7 +1,6 @@
 -- `plan::header_in` meets its contract. Three bytes are read and judged.
 use mathlib.Core.Path.{◌∙◌}
 use Rattle.plan.proofs.Ways.{header_good, header_bad}
-use borrow.Author.Rules.{rules}
 use Rattle.plan.proofs.header_in.Goals as goal
 
 pub returns-then-settings_good : goal.returns-then-settings_good

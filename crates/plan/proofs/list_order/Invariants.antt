@@ -1,12 +1,8 @@
 -- `plan::list_order` meets its contract. What is kept of the tasks and the list so far are those of the definition
 -- (proofs/Waiting.antt).
-use Rattle.plan.proofs.Waiting.{Ordered, ordered_start, ordered_room, ordered_next, ordered_stuck, ordered_end, sources_rise, to_room}
-use Rattle.plan.proofs.Counted.{passed_none, passed_next}
+use Rattle.plan.proofs.Waiting.{Ordered}
 use Rattle.plan.specs.Order.{Passed}
-use Prim.Native.Nat.{ℕ, ◌-◌}
-use lib.ListN.{length-replicate}
-use native.Mathlib.Omega.{arith}
-use borrow.Author.Rules.{rules}
+use Prim.Native.Nat.{◌-◌}
 use Rattle.plan.proofs.list_order.Given as goal
 
 abbrev pub invariant-loop-taken : goal.invariant-loop-taken

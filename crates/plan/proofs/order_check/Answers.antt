@@ -1,7 +1,6 @@
 -- `plan::order_check` meets its contract. Fewer tasks than there are were listed exactly where one is left over.
 use Rattle.plan.proofs.Waiting.{left_over_lem}
 use borrow.Author.Tests.{lt-ltb, le-ltb}
-use borrow.Author.Rules.{rules}
 use Rattle.plan.proofs.order_check.Goals as goal
 
 pub returns-then-taken-shape : goal.returns-then-taken-shape

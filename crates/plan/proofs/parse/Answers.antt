@@ -1,9 +1,6 @@
 -- `plan::parse` meets its contract. Each field carries the plan so far on (proofs/Fields.antt).
-use Rattle.plan.proofs.Fields.{From, from_start, header_on, task_on, edge_on, header_less, task_less, edge_less, task_room, edge_room, from_complete, from_refused}
-use lib.ListN.{length}
-use Prim.Native.Nat.{◌-◌}
+use Rattle.plan.proofs.Fields.{from_start, header_on, task_on, edge_on, header_less, task_less, edge_less, task_room, edge_room, from_complete, from_refused}
 use native.Mathlib.Omega.{arith}
-use borrow.Author.Rules.{rules}
 use Rattle.plan.proofs.parse.Goals as goal
 
 pub loop-given-init : goal.loop-given-init

@@ -5,7 +5,6 @@ use Rattle.model.specs.declared.Side.TheVariants.{OfPlan}
 use Rattle.model.specs.Field.{place_after}
 use native.Mathlib.Omega.{arith}
 use mathlib.Core.Path.{sym, ap, ◌∙◌}
-use borrow.Author.Rules.{rules}
 use Rattle.plan.proofs.place_after.Goals as goal
 
 pub overflow_add-result : goal.overflow_add-result

@@ -1,6 +1,5 @@
 -- `plan::read_plan` meets its contract. The fields, then the list order (proofs/Whole.antt).
 use Rattle.plan.proofs.Whole.{fields_bad, edges_good, fields_good}
-use borrow.Author.Rules.{rules}
 use Rattle.plan.proofs.read_plan.Goals as goal
 
 pub returns-in-Bad : goal.returns-in-Bad

@@ -1,11 +1,7 @@
 -- `plan::release` meets its contract. The edges from the task that were passed are no longer counted (proofs/Counted.antt).
 use Rattle.plan.specs.Order.{Released}
 use Rattle.model.specs.Below.{at}
-use Rattle.plan.proofs.Counted.{released_none, released_some, released_next, released_end}
 use Prim.Native.Nat.{ℕ, ◌≤◌, ◌<◌, ◌-◌}
-use mathlib.Core.Path.{◌≡◌}
-use native.Mathlib.Omega.{arith}
-use borrow.Author.Rules.{rules}
 use Rattle.plan.proofs.release.Given as goal
 
 abbrev pub invariant-loop-e : goal.invariant-loop-e

@@ -1,7 +1,6 @@
 -- `plan::settings_good` meets its contract. Each test is one of the definition's.
 use Rattle.model.specs.Plan.{settings_good}
 use borrow.Author.Tests.{le-leb, lt-leb}
-use borrow.Author.Rules.{rules}
 use Rattle.plan.proofs.settings_good.Goals as goal
 
 pub returns-then-cores-lt1 : goal.returns-then-cores-lt1

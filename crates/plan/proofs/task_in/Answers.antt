@@ -1,7 +1,6 @@
 -- `plan::task_in` meets its contract.
 use mathlib.Core.Path.{◌∙◌}
 use Rattle.plan.proofs.Ways.{task_many, task_bad, task_good}
-use borrow.Author.Rules.{rules}
 use Rattle.plan.proofs.task_in.Goals as goal
 
 pub returns-then-seen-ge64 : goal.returns-then-seen-ge64

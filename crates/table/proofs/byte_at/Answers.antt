@@ -1,7 +1,6 @@
 -- `table::byte_at` meets its contract. A byte is below 256, which the read gives.
 use mathlib.Core.Path.{refl}
 use native.Mathlib.Omega.{arith}
-use borrow.Author.Rules.{rules}
 use Rattle.table.proofs.byte_at.Goals as goal
 
 pub overflow_cast-result : goal.overflow_cast-result

@@ -1,6 +1,5 @@
 -- `table::field_check` meets its contract. The five values are read, then judged.
 use Rattle.table.proofs.Checks.{values_read}
-use borrow.Author.Rules.{rules}
 use Rattle.table.proofs.field_check.Goals as goal
 
 pub returns : goal.returns

@@ -1,6 +1,5 @@
 -- `table::four_at` meets its contract. Four bytes, high byte first.
 use Rattle.table.proofs.Checks.{four_read}
-use borrow.Author.Rules.{rules}
 use Rattle.table.proofs.four_at.Goals as goal
 
 pub returns : goal.returns

@@ -1,6 +1,5 @@
 -- `table::given_check` meets its contract. The five values are read, then judged.
 use Rattle.table.proofs.Entries.{givens_read}
-use borrow.Author.Rules.{rules}
 use Rattle.table.proofs.given_check.Goals as goal
 
 pub returns : goal.returns

@@ -1,12 +1,9 @@
 -- `table::givens_good` meets its contract. A loop over a check.
 use Rattle.model.specs.Table.{of_numbers, values_at}
-use Rattle.model.proofs.Refusals.{first_good, first_bad_lem, first_end}
 use Rattle.model.specs.declared.Check.TheVariants.{Good}
 use Rattle.model.specs.Refusals.{first_bad}
-use Rattle.model.specs.Below.{join_below}
 use Prim.Native.Nat.{◌≤◌, ◌-◌}
 use mathlib.Core.Path.{◌≡◌}
-use borrow.Author.Rules.{rules}
 use Rattle.table.proofs.givens_good.Given as goal
 
 abbrev pub invariant-loop-i : goal.invariant-loop-i

@@ -2,7 +2,6 @@
 use Rattle.table.proofs.Entries.{numbers_other, numbers_given}
 use native.Mathlib.Omega.{arith}
 use mathlib.Core.Path.{◌∙◌}
-use borrow.Author.Rules.{rules}
 use Rattle.table.proofs.numbers_check.Goals as goal
 
 pub returns-then-table-tasks : goal.returns-then-table-tasks

@@ -1,7 +1,6 @@
 -- `table::phase_end` meets its contract. By the phase's kind.
 use Rattle.model.proofs.Contention.{of_read, of_write}
 use mathlib.Core.Path.{sym, ◌∙◌}
-use borrow.Author.Rules.{rules}
 use Rattle.table.proofs.phase_end.Goals as goal
 
 pub returns-then-x-eq0 : goal.returns-then-x-eq0

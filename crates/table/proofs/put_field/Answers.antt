@@ -1,6 +1,5 @@
 -- `table::put_field` meets its contract. Five runs in a row are one.
 use Rattle.table.proofs.Rows.{field_stored}
-use borrow.Author.Rules.{rules}
 use Rattle.table.proofs.put_field.Goals as goal
 
 pub returns : goal.returns

@@ -4,7 +4,6 @@ use Rattle.model.specs.Below.{stored}
 use native.Mathlib.Omega.{arith}
 use lib.ListN.{length-set}
 use native.Mathlib.Numerals.{towards_suc}
-use borrow.Author.Rules.{rules}
 use Rattle.table.proofs.put_four.Goals as goal
 
 pub bounds-out-at-2 : goal.bounds-out-at-2

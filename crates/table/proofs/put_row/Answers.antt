@@ -1,7 +1,6 @@
 -- `table::put_row` meets its contract. The five numbers are read, then stored.
 use native.Mathlib.Omega.{arith}
 use Rattle.table.proofs.Rows.{field_read}
-use borrow.Author.Rules.{rules}
 use Rattle.table.proofs.put_row.Goals as goal
 
 pub put_field-requires : goal.put_field-requires

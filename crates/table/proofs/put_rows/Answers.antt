@@ -1,11 +1,7 @@
 -- `table::put_rows` meets its contract. One row more each turn.
-use Rattle.model.specs.Table.{of_numbers, bytes_at}
 use Rattle.table.proofs.Rows.{field_long}
 use Rattle.model.proofs.Stores.{blocks_none, blocks_more, blocks_end}
-use Rattle.model.specs.Below.{append_below, stored}
-use lib.ListN.{length}
-use Prim.Native.Nat.{◌≤◌, ◌-◌}
-use mathlib.Core.Path.{◌≡◌, refl, ap, ◌∙◌}
+use mathlib.Core.Path.{refl, ◌∙◌}
 use native.Mathlib.Omega.{arith}
 use borrow.Author.Rules.{rules}
 use Rattle.table.proofs.put_rows.Goals as goal

@@ -1,13 +1,9 @@
 -- `table::put_rows` meets its contract. One row more each turn.
 use Rattle.model.specs.Table.{of_numbers, bytes_at}
-use Rattle.table.proofs.Rows.{field_long}
-use Rattle.model.proofs.Stores.{blocks_none, blocks_more, blocks_end}
 use Rattle.model.specs.Below.{append_below, stored}
 use lib.ListN.{length}
 use Prim.Native.Nat.{◌≤◌, ◌-◌}
-use mathlib.Core.Path.{◌≡◌, refl, ap, ◌∙◌}
-use native.Mathlib.Omega.{arith}
-use borrow.Author.Rules.{rules}
+use mathlib.Core.Path.{◌≡◌}
 use Rattle.table.proofs.put_rows.Given as goal
 
 abbrev pub invariant-loop-i : goal.invariant-loop-i

@@ -5,7 +5,6 @@ use Rattle.table.proofs.Entries.{read_unplanned, read_bad, read_short, read_done
 use Rattle.plan.proofs.Whole.{plan_refused, plan_known}
 use native.Mathlib.Omega.{arith}
 use mathlib.Core.Path.{sym, ap, ◌∙◌}
-use borrow.Author.Rules.{rules}
 use Rattle.table.proofs.read.Goals as goal
 
 pub returns-in-Bad : goal.returns-in-Bad

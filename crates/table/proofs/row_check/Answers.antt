@@ -1,6 +1,5 @@
 -- `table::row_check` meets its contract. By what the step found.
 use Rattle.table.proofs.Checks.{row_is, row_whole}
-use borrow.Author.Rules.{rules}
 use Rattle.table.proofs.row_check.Goals as goal
 
 pub field_check-requires : goal.field_check-requires

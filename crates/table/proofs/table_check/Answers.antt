@@ -2,7 +2,6 @@
 use Rattle.table.proofs.Checks.{rows_bad, rows_over, rows_whole}
 use mathlib.Core.Path.{◌∙◌}
 use native.Mathlib.Omega.{arith}
-use borrow.Author.Rules.{rules}
 use Rattle.table.proofs.table_check.Goals as goal
 
 pub returns-in-Bad : goal.returns-in-Bad

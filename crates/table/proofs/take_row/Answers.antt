@@ -1,6 +1,5 @@
 -- `table::take_row` meets its contract. The five numbers are read, then stored.
 use Rattle.table.proofs.Rows.{numbers_read}
-use borrow.Author.Rules.{rules}
 use Rattle.table.proofs.take_row.Goals as goal
 
 pub returns : goal.returns

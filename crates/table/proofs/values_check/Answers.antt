@@ -1,7 +1,6 @@
 -- `table::values_check` meets its contract. One law for each way out (proofs/Checks.antt).
 use Rattle.table.proofs.Checks.{core_unknown, read_falls, execute_falls, write_falls, none_falls}
 use mathlib.Core.Path.{◌∙◌}
-use borrow.Author.Rules.{rules}
 use Rattle.table.proofs.values_check.Goals as goal
 
 pub returns-then-cores-core : goal.returns-then-cores-core

@@ -4,7 +4,6 @@ use Rattle.table.proofs.Entries.{write_unplanned, write_bad, write_short, write_
 use Rattle.plan.proofs.Whole.{plan_refused, plan_known}
 use native.Mathlib.Omega.{arith}
 use mathlib.Core.Path.{sym, ap, ◌∙◌}
-use borrow.Author.Rules.{rules}
 use Rattle.table.proofs.write.Goals as goal
 
 pub returns-in-Bad : goal.returns-in-Bad
