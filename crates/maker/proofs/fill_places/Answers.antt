@@ -1,0 +1,31 @@
+-- `maker::fill_places` meets its contract. The edges passed have their place.
+use Rattle.contention.proofs.Columns.{fill_length, fill_end}
+use Rattle.model.proofs.Below.{fill_none, fill_step}
+use Rattle.model.proofs.Graph.{place_le}
+use Rattle.model.specs.Below.{at, list_below}
+use Rattle.model.specs.Graph.{place_of}
+use lib.ListN.{length, drop}
+use Prim.Native.Nat.{◌≤◌, ◌-◌}
+use mathlib.Core.List.{◌++◌}
+use mathlib.Core.Path.{◌≡◌, ap, ◌∙◌}
+use native.Mathlib.Omega.{arith}
+use borrow.Author.Rules.{rules}
+use Rattle.maker.proofs.fill_places.Goals as goal
+
+pub loop-e-init : goal.loop-e-init
+loop-e-init c = (search rules, fill_none _ _)
+
+pub overflow_cast-column : goal.overflow_cast-column
+overflow_cast-column c = omega (arith, c.requires.0, c.place_of.ensures, place_le c.args.order.now c.index-task.result)
+
+pub bounds-column-e : goal.bounds-column-e
+bounds-column-e c = omega (arith, c.requires.1, c.loop-e-test.true, fill_length _ c.args.column.now _ c.loop-e.e (omega (arith, c.requires.1)) c.loop-e.invariant.1)
+
+pub loop-e-preserved : goal.loop-e-preserved
+loop-e-preserved c = (search rules, fill_step _ c.args.column.now _ _ _ (omega (arith, c.requires.1, c.loop-e-test.true)) c.loop-e.invariant.1 (c.place_of.ensures ∙ ap (place_of c.args.order.now) c.index-task.ensures))
+
+pub shape_of-column : goal.shape_of-column
+shape_of-column c = fill_length _ c.args.column.now _ c.loop-e.e (omega (arith, c.requires.1, c.loop-e.invariant.0)) c.loop-e.invariant.1
+
+pub returns : goal.returns
+returns c = fill_end _ c.args.column.now _ _ _ c.loop-e.invariant.0 c.loop-e-test.false c.loop-e.invariant.1
