@@ -5,24 +5,18 @@
 ghost use Rattle.std.specs.Prelude.{◌*◌, ◌≤◌, ◌<◌, length};
 
 use model::Made;
-
-// A number after a blank.
-fn blank(x: u32) {
-    io::write_all(1, b" ");
-    io::print_decimal(1, x as u64);
-}
+use std::io;
 
 // The line of task i.
-fn line(numbers: &[u32], i: usize)
+fn line(rt: &impl Print, numbers: &[u32], i: usize) -> io::Result<()>
     requires { (i < 64) × (320 ≤ length numbers.now) }
 {
-    io::print_decimal(1, i as u64);
-    blank(table::core_at(numbers, i));
-    blank(table::read_start(numbers, i));
-    blank(table::execute_start(numbers, i));
-    blank(table::write_start(numbers, i));
-    blank(table::end_at(numbers, i));
-    io::write_all(1, b"\n");
+    let core = table::core_at(numbers, i);
+    let r = table::read_start(numbers, i);
+    let e = table::execute_start(numbers, i);
+    let w = table::write_start(numbers, i);
+    let f = table::end_at(numbers, i);
+    println!(rt; "{i} {core} {r} {e} {w} {f}")
 }
 
 // The fields that were made, each of 20 bytes: the output held 0 where now their tags stand.
@@ -38,27 +32,28 @@ fn fields(made: &[u8]) -> usize
     64
 }
 
-fn lines(made: &[u8])
+fn lines(rt: &impl Print, made: &[u8]) -> io::Result<()>
     requires { 1280 ≤ length made.now }
 {
     let mut numbers = [0u32; 320];
     let tasks = fields(made);
     table::take_rows(made, tasks, &mut numbers);
     for i in 0..tasks {
-        line(&numbers, i);
+        line(rt, &numbers, i)?;
     }
+    Ok(())
 }
 
-fn main() {
-    let mut plan = io::buffer();
-    let n = io::read_full(0, &mut plan);
+fn main(rt: HostRuntime) -> io::Result<()> {
+    let mut plan = [0u8; 4096];
+    let n = input::read_front(&mut rt.stdin(), &mut plan)?;
     let mut made = [0u8; 1280];
     match maker::make(&plan[..n], &mut made) {
         Made::Scheduled(makespan) => {
-            say::named(b"makespan", makespan.0 as u64);
-            io::write_all(1, b"\n");
-            lines(&made);
+            say::named(&rt, b"makespan", makespan.0 as u64)?;
+            println!(rt)?;
+            lines(&rt, &made)
         }
-        Made::Refused(r) => say::refused(r),
+        Made::Refused(r) => say::refused(&rt, r),
     }
 }

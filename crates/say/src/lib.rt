@@ -2,18 +2,18 @@
 #![tactic(auto)]
 
 use model::Refusal;
+use std::io::{self, Write};
 
 // A word and a number after a blank.
-pub fn named(word: &[u8], x: u64) {
-    io::write_all(1, word);
-    io::write_all(1, b" ");
-    io::print_decimal(1, x);
+pub fn named(rt: &impl Print, word: &[u8], x: u64) -> io::Result<()> {
+    io::writer(rt).write_all(word)?;
+    print!(rt; " {x}")
 }
 
 // A line: `refused`, the refusal's number, `at` and its place.
-pub fn refused(r: Refusal) {
+pub fn refused(rt: &impl Print, r: Refusal) -> io::Result<()> {
     let fault = r.fault;
-    named(b"refused", model::number_of(fault) as u64);
-    named(b" at", r.place as u64);
-    io::write_all(1, b"\n");
+    named(rt, b"refused", model::number_of(fault) as u64)?;
+    named(rt, b" at", r.place as u64)?;
+    println!(rt)
 }

@@ -2,7 +2,9 @@
 // is a two-byte length and bytes. tests/vectors/gen.py writes the cases, and what an independent program says of them.
 #![tactic(auto)]
 
-ghost use Rattle.std.specs.Prelude.{◌+◌, ◌<◌, ◌≤◌, length};
+ghost use Rattle.std.specs.Prelude.{◌+◌, ◌<◌, ◌≤◌, length, IfOk};
+
+use std::io;
 
 mod plans;
 mod runs;
@@ -44,28 +46,28 @@ fn small(s: &[u8]) -> usize {
 }
 
 // What a case's function answers of its blocks.
-fn show(kind: u8, first: &[u8], second: &[u8], third: &[u8]) {
+fn show(rt: &impl Print, kind: u8, first: &[u8], second: &[u8], third: &[u8]) -> io::Result<()> {
     if kind == 1 {
-        plans::show_plan(first);
+        plans::show_plan(rt, first)
     } else if kind == 2 {
-        plans::show_step(first, small(third));
+        plans::show_step(rt, first, small(third))
     } else if kind == 3 {
-        tables::show_read(first, second, small(third));
+        tables::show_read(rt, first, second, small(third))
     } else if kind == 4 {
-        tables::show_write(first, second, small(third));
+        tables::show_write(rt, first, second, small(third))
     } else if kind == 5 {
-        tables::show_verify(first, second);
+        tables::show_verify(rt, first, second)
     } else if kind == 6 {
-        runs::show_run(first, second, third);
+        runs::show_run(rt, first, second, third)
     } else {
-        tables::show_make(first, small(third));
+        tables::show_make(rt, first, small(third))
     }
 }
 
 // One case; the answer is where the next one begins.
-fn case(s: &[u8], at: usize) -> usize
+fn case(rt: &impl Print, s: &[u8], at: usize) -> io::Result<usize>
     requires { at < length s.now }
-    ensures { (at < result) × (result ≤ length s.now) }
+    ensures { IfOk result (λ next. (at < next) × (next ≤ length s.now)) }
 {
     let kind = s[at];
     let first = block(s, at + 1);
@@ -77,19 +79,20 @@ fn case(s: &[u8], at: usize) -> usize
     let third = block(s, d);
     let e = third.from;
     let f = third.to;
-    show(kind, &s[a..b], &s[c..d], &s[e..f]);
-    f
+    show(rt, kind, &s[a..b], &s[c..d], &s[e..f])?;
+    Ok(f)
 }
 
-fn cases(s: &[u8]) {
+fn cases(rt: &impl Print, s: &[u8]) -> io::Result<()> {
     let mut at: usize = 0;
     while at < s.len() {
-        at = case(s, at);
+        at = case(rt, s, at)?;
     }
+    Ok(())
 }
 
-fn main() {
-    let mut buf = io::large_buffer();
-    let n = io::read_full(0, &mut buf);
-    cases(&buf[..n]);
+fn main(rt: HostRuntime) -> io::Result<()> {
+    let mut buf = [0u8; 65536];
+    let n = input::read_front(&mut rt.stdin(), &mut buf)?;
+    cases(&rt, &buf[..n])
 }

@@ -1,21 +1,29 @@
 // Tables played on the bus. A lent list is printed whole, so that what stays as it was shows too.
 use model::Played;
+use std::io;
 
-fn run_into(plan: &[u8], table: &[u8], served: u32, words: &[u32], out: &mut [u32]) {
+fn run_into(
+    rt: &impl Print,
+    plan: &[u8],
+    table: &[u8],
+    served: u32,
+    words: &[u32],
+    out: &mut [u32],
+) -> io::Result<()> {
     let answer = run::run(plan, table, served, words, out);
-    crate::text::word(b"run");
+    crate::text::word(rt, b"run")?;
     if let Played::Refused(r) = answer {
-        crate::text::refusal(r);
+        crate::text::refusal(rt, r)?;
     }
-    crate::text::word(b" list");
-    crate::text::numbers(out);
-    crate::text::line();
+    crate::text::word(rt, b" list")?;
+    crate::text::numbers(rt, out)?;
+    crate::text::line(rt)
 }
 
 // Of six bytes and more: the length of the list lent, two bytes; the core served last, four; the word counts, four each.
-pub fn show_run(plan: &[u8], table: &[u8], given: &[u8]) {
+pub fn show_run(rt: &impl Print, plan: &[u8], table: &[u8], given: &[u8]) -> io::Result<()> {
     if given.len() < 6 {
-        return;
+        return Ok(());
     }
     let room = plan::two_at(given, 0);
     let served = table::four_at(given, 2);
@@ -23,10 +31,11 @@ pub fn show_run(plan: &[u8], table: &[u8], given: &[u8]) {
     let count = crate::tables::take_numbers(&given[6..], &mut words);
     let mut out = [9u32; 2048];
     run_into(
+        rt,
         plan,
         table,
         served,
         &words[..count],
         &mut out[..crate::tables::fitting(room)],
-    );
+    )
 }

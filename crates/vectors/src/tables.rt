@@ -2,6 +2,7 @@
 ghost use Rattle.std.specs.Prelude.{◌≡◌, ◌≤◌, ◌<◌, length};
 
 use model::{Decoded, Made, Verdict, Written};
+use std::io;
 
 // At most 2,048.
 pub fn fitting(n: usize) -> usize
@@ -33,64 +34,64 @@ pub fn take_numbers(s: &[u8], out: &mut [u32]) -> usize
 }
 
 // The table read into a lent list.
-fn read_into(plan: &[u8], table: &[u8], out: &mut [u32]) {
+fn read_into(rt: &impl Print, plan: &[u8], table: &[u8], out: &mut [u32]) -> io::Result<()> {
     let answer = table::read(plan, table, out);
-    crate::text::word(b"read");
+    crate::text::word(rt, b"read")?;
     if let Decoded::Refused(r) = answer {
-        crate::text::refusal(r);
+        crate::text::refusal(rt, r)?;
     }
-    crate::text::word(b" list");
-    crate::text::numbers(out);
-    crate::text::line();
+    crate::text::word(rt, b" list")?;
+    crate::text::numbers(rt, out)?;
+    crate::text::line(rt)
 }
 
-pub fn show_read(plan: &[u8], table: &[u8], room: usize) {
+pub fn show_read(rt: &impl Print, plan: &[u8], table: &[u8], room: usize) -> io::Result<()> {
     let mut out = [9u32; 2048];
-    read_into(plan, table, &mut out[..fitting(room)]);
+    read_into(rt, plan, table, &mut out[..fitting(room)])
 }
 
 // The table written into lent bytes.
-fn write_into(plan: &[u8], table: &[u32], out: &mut [u8]) {
+fn write_into(rt: &impl Print, plan: &[u8], table: &[u32], out: &mut [u8]) -> io::Result<()> {
     let answer = table::write(plan, table, out);
-    crate::text::word(b"write");
+    crate::text::word(rt, b"write")?;
     if let Written::Refused(r) = answer {
-        crate::text::refusal(r);
+        crate::text::refusal(rt, r)?;
     }
-    crate::text::word(b" bytes");
-    crate::text::bytes(out);
-    crate::text::line();
+    crate::text::word(rt, b" bytes")?;
+    crate::text::bytes(rt, out)?;
+    crate::text::line(rt)
 }
 
-pub fn show_write(plan: &[u8], numbers: &[u8], room: usize) {
+pub fn show_write(rt: &impl Print, plan: &[u8], numbers: &[u8], room: usize) -> io::Result<()> {
     let mut table = [0u32; 2048];
     let count = take_numbers(numbers, &mut table);
     let mut out = [9u8; 2048];
-    write_into(plan, &table[..count], &mut out[..fitting(room)]);
+    write_into(rt, plan, &table[..count], &mut out[..fitting(room)])
 }
 
-pub fn show_verify(plan: &[u8], table: &[u8]) {
-    crate::text::word(b"verify");
+pub fn show_verify(rt: &impl Print, plan: &[u8], table: &[u8]) -> io::Result<()> {
+    crate::text::word(rt, b"verify")?;
     match verifier::verify(plan, table) {
-        Verdict::Accepted(makespan) => crate::text::number(makespan.0 as u64),
-        Verdict::Refused(r) => crate::text::refusal(r),
+        Verdict::Accepted(makespan) => crate::text::number(rt, makespan.0 as u64)?,
+        Verdict::Refused(r) => crate::text::refusal(rt, r)?,
     }
-    crate::text::line();
+    crate::text::line(rt)
 }
 
 // The table made into lent bytes.
-fn make_into(plan: &[u8], out: &mut [u8]) {
+fn make_into(rt: &impl Print, plan: &[u8], out: &mut [u8]) -> io::Result<()> {
     let answer = maker::make(plan, out);
-    crate::text::word(b"make");
+    crate::text::word(rt, b"make")?;
     match answer {
-        Made::Scheduled(makespan) => crate::text::number(makespan.0 as u64),
-        Made::Refused(r) => crate::text::refusal(r),
+        Made::Scheduled(makespan) => crate::text::number(rt, makespan.0 as u64)?,
+        Made::Refused(r) => crate::text::refusal(rt, r)?,
     }
-    crate::text::word(b" bytes");
-    crate::text::bytes(out);
-    crate::text::line();
+    crate::text::word(rt, b" bytes")?;
+    crate::text::bytes(rt, out)?;
+    crate::text::line(rt)
 }
 
-pub fn show_make(plan: &[u8], room: usize) {
+pub fn show_make(rt: &impl Print, plan: &[u8], room: usize) -> io::Result<()> {
     let mut out = [9u8; 2048];
-    make_into(plan, &mut out[..fitting(room)]);
+    make_into(rt, plan, &mut out[..fitting(room)])
 }

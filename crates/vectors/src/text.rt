@@ -1,18 +1,18 @@
 // Printing answers.
 use model::{Refusal, Side};
+use std::io::{self, Write};
 
-pub fn word(s: &[u8]) {
-    io::write_all(1, s);
+pub fn word(rt: &impl Print, s: &[u8]) -> io::Result<()> {
+    io::writer(rt).write_all(s)
 }
 
 // A blank and a number.
-pub fn number(x: u64) {
-    io::write_all(1, b" ");
-    io::print_decimal(1, x);
+pub fn number(rt: &impl Print, x: u64) -> io::Result<()> {
+    print!(rt; " {x}")
 }
 
-pub fn line() {
-    io::write_all(1, b"\n");
+pub fn line(rt: &impl Print) -> io::Result<()> {
+    println!(rt)
 }
 
 fn side_number(side: Side) -> u64 {
@@ -24,30 +24,33 @@ fn side_number(side: Side) -> u64 {
 }
 
 // Number, side and place.
-pub fn refusal(r: Refusal) {
+pub fn refusal(rt: &impl Print, r: Refusal) -> io::Result<()> {
     let fault = r.fault;
     let side = r.side;
-    word(b" refused");
-    number(model::number_of(fault) as u64);
-    number(side_number(side));
-    number(r.place as u64);
+    word(rt, b" refused")?;
+    number(rt, model::number_of(fault) as u64)?;
+    number(rt, side_number(side))?;
+    number(rt, r.place as u64)
 }
 
 // A blank before each number of a list.
-pub fn bytes(s: &[u8]) {
+pub fn bytes(rt: &impl Print, s: &[u8]) -> io::Result<()> {
     for i in 0..s.len() {
-        number(s[i] as u64);
+        number(rt, s[i] as u64)?;
     }
+    Ok(())
 }
 
-pub fn halves(s: &[u16]) {
+pub fn halves(rt: &impl Print, s: &[u16]) -> io::Result<()> {
     for i in 0..s.len() {
-        number(s[i] as u64);
+        number(rt, s[i] as u64)?;
     }
+    Ok(())
 }
 
-pub fn numbers(s: &[u32]) {
+pub fn numbers(rt: &impl Print, s: &[u32]) -> io::Result<()> {
     for i in 0..s.len() {
-        number(s[i] as u64);
+        number(rt, s[i] as u64)?;
     }
+    Ok(())
 }

@@ -2,33 +2,32 @@
 // and the place.
 #![tactic(auto)]
 
-ghost use Rattle.io.specs.Counts.{IsPrefixLen};
+ghost use Rattle.std.specs.Prelude.{◌≤◌, length, IfOk};
 
 use model::Verdict;
+use std::fs::File;
+use std::io;
 
 // At most as many bytes of a file as fit; none of one that can't be opened.
-fn load(path: &[u8], buf: &mut [u8]) -> usize
-    ensures { IsPrefixLen result buf.new }
+fn load(rt: &HostRuntime, path: &str, buf: &mut [u8]) -> io::Result<usize>
+    ensures { IfOk result (λ n. n ≤ length buf.new) }
 {
-    let fd = os::open_read(path);
-    if fd < 0 {
-        return 0;
+    match File::open(rt, path) {
+        Ok(mut file) => input::read_front(&mut file, buf),
+        Err(_) => Ok(0),
     }
-    let n = io::read_full(fd, buf);
-    libc::close(fd);
-    n
 }
 
-fn main() {
-    let mut plan = io::buffer();
-    let mut table = io::buffer();
-    let p = load(b"plan.bin", &mut plan);
-    let t = load(b"table.bin", &mut table);
+fn main(rt: HostRuntime) -> io::Result<()> {
+    let mut plan = [0u8; 4096];
+    let mut table = [0u8; 4096];
+    let p = load(&rt, "plan.bin", &mut plan)?;
+    let t = load(&rt, "table.bin", &mut table)?;
     match verifier::verify(&plan[..p], &table[..t]) {
         Verdict::Accepted(makespan) => {
-            say::named(b"accepted", makespan.0 as u64);
-            io::write_all(1, b"\n");
+            say::named(&rt, b"accepted", makespan.0 as u64)?;
+            println!(rt)
         }
-        Verdict::Refused(r) => say::refused(r),
+        Verdict::Refused(r) => say::refused(&rt, r),
     }
 }

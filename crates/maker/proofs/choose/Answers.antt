@@ -1,9 +1,8 @@
 -- `maker::choose` meets its contract. The best of the choices tried.
-use Rattle.maker.specs.Choosing.{span_with}
-use Rattle.maker.proofs.Choosing.{Kept, room_kept, ready_long, few_kept, span_same, Leading, leading_none, leading_more}
+use Rattle.maker.proofs.Choosing.{room_kept, ready_long, few_kept, span_same, leading_none, leading_more}
 use lib.ListN.{length, set, length-set}
 use lib.Seq.{set-set}
-use Prim.Native.Nat.{ℕ, ◌*◌, ◌-◌, ◌≤◌}
+use Prim.Native.Nat.{ℕ, ◌*◌, ◌-◌}
 use mathlib.Core.Path.{◌≡◌, refl, ap, ◌∙◌}
 use mathlib.Core.List.{List}
 use native.Mathlib.Omega.{arith}

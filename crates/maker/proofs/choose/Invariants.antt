@@ -1,13 +1,9 @@
 -- `maker::choose` meets its contract. The best of the choices tried.
 use Rattle.maker.specs.Choosing.{span_with}
-use Rattle.maker.proofs.Choosing.{Kept, room_kept, ready_long, few_kept, span_same, Leading, leading_none, leading_more}
-use lib.ListN.{length, set, length-set}
-use lib.Seq.{set-set}
+use Rattle.maker.proofs.Choosing.{Kept, Leading}
+use lib.ListN.{length, set}
 use Prim.Native.Nat.{ℕ, ◌*◌, ◌-◌, ◌≤◌}
-use mathlib.Core.Path.{◌≡◌, refl, ap, ◌∙◌}
-use mathlib.Core.List.{List}
-use native.Mathlib.Omega.{arith}
-use borrow.Author.Rules.{rules}
+use mathlib.Core.Path.{◌≡◌}
 use Rattle.maker.proofs.choose.Given as goal
 
 abbrev pub invariant-loop-choice : goal.invariant-loop-choice

@@ -1,9 +1,7 @@
 -- `maker::choose_all` meets its contract. The places passed have their choice.
 use Rattle.model.specs.ListRule.{chosen}
-use Rattle.placing.specs.Candidates.{plan_by}
-use Rattle.maker.proofs.Choosing.{Kept, room_kept}
-use lib.ListN.{length, take}
-use Prim.Native.Nat.{◌-◌, ◌≤◌}
+use Rattle.maker.proofs.Choosing.{room_kept}
+use lib.ListN.{length}
 use mathlib.Core.Path.{◌≡◌, refl, ◌∙◌}
 use native.Mathlib.Omega.{arith}
 use borrow.Author.Rules.{rules}

@@ -1,12 +1,10 @@
 -- `maker::choose_all` meets its contract. The places passed have their choice.
 use Rattle.model.specs.ListRule.{chosen}
 use Rattle.placing.specs.Candidates.{plan_by}
-use Rattle.maker.proofs.Choosing.{Kept, room_kept}
+use Rattle.maker.proofs.Choosing.{Kept}
 use lib.ListN.{length, take}
 use Prim.Native.Nat.{◌-◌, ◌≤◌}
-use mathlib.Core.Path.{◌≡◌, refl, ◌∙◌}
-use native.Mathlib.Omega.{arith}
-use borrow.Author.Rules.{rules}
+use mathlib.Core.Path.{◌≡◌}
 use Rattle.maker.proofs.choose_all.Given as goal
 
 abbrev pub invariant-loop-k : goal.invariant-loop-k

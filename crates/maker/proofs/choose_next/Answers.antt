@@ -8,8 +8,6 @@ use lib.ListN.{length}
 use lib.Seq.{length-take-le}
 use Prim.Native.Nat.{◌+◌}
 use native.Mathlib.Omega.{arith}
-use borrow.Author.Rules.{rules}
-use borrow.Author.Rules.{rules}
 use Rattle.maker.proofs.choose_next.Goals as goal
 
 pub slice_bounds-choose-end : goal.slice_bounds-choose-end

@@ -1,12 +1,9 @@
 -- `maker::fill_costs` meets its contract. The places passed have their task's execute time.
 use Rattle.contention.proofs.Columns.{fill_length, fill_end}
 use Rattle.model.proofs.Below.{fill_none, fill_step}
-use Rattle.model.specs.Below.{at, list_below}
+use Rattle.model.specs.Below.{at}
 use borrow.Author.Count.{below_more}
-use lib.ListN.{length, drop}
-use Prim.Native.Nat.{ℕ, ◌≤◌, ◌<◌, ◌-◌}
-use mathlib.Core.List.{◌++◌}
-use mathlib.Core.Path.{◌≡◌, ap, ◌∙◌}
+use mathlib.Core.Path.{ap, ◌∙◌}
 use native.Mathlib.Omega.{arith}
 use borrow.Author.Rules.{rules}
 use Rattle.maker.proofs.fill_costs.Goals as goal

@@ -1,12 +1,7 @@
 -- `maker::fill_numbers` meets its contract. The numbers passed are in place.
 use Rattle.contention.proofs.Columns.{fill_length, fill_end}
-use Rattle.maker.specs.Renumbering.{table_by, number_of}
 use Rattle.model.proofs.Below.{fill_none, fill_step}
-use Rattle.model.specs.Below.{list_below}
-use lib.ListN.{length, drop}
-use Prim.Native.Nat.{◌*◌, ◌/◌, ◌≤◌, ◌-◌}
-use mathlib.Core.List.{◌++◌}
-use mathlib.Core.Path.{◌≡◌}
+use Prim.Native.Nat.{◌/◌}
 use native.Mathlib.Omega.{arith}
 use borrow.Author.Rules.{rules}
 use Rattle.maker.proofs.fill_numbers.Goals as goal

@@ -2,12 +2,8 @@
 use Rattle.contention.proofs.Columns.{fill_length, fill_end}
 use Rattle.model.proofs.Below.{fill_none, fill_step}
 use Rattle.model.proofs.Graph.{place_le}
-use Rattle.model.specs.Below.{at, list_below}
 use Rattle.model.specs.Graph.{place_of}
-use lib.ListN.{length, drop}
-use Prim.Native.Nat.{◌≤◌, ◌-◌}
-use mathlib.Core.List.{◌++◌}
-use mathlib.Core.Path.{◌≡◌, ap, ◌∙◌}
+use mathlib.Core.Path.{ap, ◌∙◌}
 use native.Mathlib.Omega.{arith}
 use borrow.Author.Rules.{rules}
 use Rattle.maker.proofs.fill_places.Goals as goal

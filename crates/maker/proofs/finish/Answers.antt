@@ -7,8 +7,6 @@ use Rattle.maker.proofs.Finishing.{rows_ready, cores_small, finished_bytes}
 use lib.ListN.{length}
 use mathlib.Core.Path.{ap, ◌∙◌}
 use native.Mathlib.Omega.{arith}
-use borrow.Author.Rules.{rules}
-use borrow.Author.Rules.{rules}
 use Rattle.maker.proofs.finish.Goals as goal
 
 pub slice_bounds-settle-end-2 : goal.slice_bounds-settle-end-2

@@ -2,7 +2,6 @@
 use Rattle.maker.proofs.Edges.{linked_length, linked_more}
 use Rattle.maker.specs.Renumbering.{linked_by}
 use lib.ListN.{length, length-set}
-use Prim.Native.Nat.{◌≤◌, ◌-◌}
 use mathlib.Core.Path.{◌≡◌, refl, ap, ◌∙◌}
 use native.Mathlib.Omega.{arith}
 use borrow.Author.Rules.{rules}

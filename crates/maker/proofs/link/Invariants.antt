@@ -1,11 +1,8 @@
 -- `maker::link` meets its contract. The edges passed are in the chains.
-use Rattle.maker.proofs.Edges.{linked_length, linked_more}
 use Rattle.maker.specs.Renumbering.{linked_by}
-use lib.ListN.{length, length-set}
+use lib.ListN.{length}
 use Prim.Native.Nat.{◌≤◌, ◌-◌}
-use mathlib.Core.Path.{◌≡◌, refl, ap, ◌∙◌}
-use native.Mathlib.Omega.{arith}
-use borrow.Author.Rules.{rules}
+use mathlib.Core.Path.{◌≡◌}
 use Rattle.maker.proofs.link.Given as goal
 
 abbrev pub invariant-loop-e : goal.invariant-loop-e

@@ -3,8 +3,6 @@ use Rattle.model.proofs.Below.{take_count}
 use Rattle.plan.proofs.Whole.{plan_refused, plan_known, plan_fronts, fronts_plan}
 use Rattle.maker.proofs.Entry.{make_unplanned, make_short, make_done, fronts_planned}
 use native.Mathlib.Omega.{arith}
-use borrow.Author.Rules.{rules}
-use borrow.Author.Rules.{rules}
 use Rattle.maker.proofs.make.Goals as goal
 
 pub returns-in-Bad : goal.returns-in-Bad

@@ -3,8 +3,6 @@ use Rattle.placing.specs.Candidates.{plan_by}
 use Rattle.contention.proofs.Columns.{fill_take, fill_count}
 use Rattle.maker.proofs.Listing.{order_long, order_known, by_place, targets_known, tasks_same, ordered, listed_by, made_by_lem}
 use native.Mathlib.Omega.{arith}
-use borrow.Author.Rules.{rules}
-use borrow.Author.Rules.{rules}
 use Rattle.maker.proofs.make_table.Goals as goal
 
 pub fill_costs-requires : goal.fill_costs-requires

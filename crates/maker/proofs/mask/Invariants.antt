@@ -1,14 +1,10 @@
 -- `maker::mask` meets its contract. The edges passed are in place.
-use Rattle.contention.proofs.Columns.{fill_length, fill_end}
 use Rattle.maker.specs.Renumbering.{masked_at}
-use Rattle.model.proofs.Below.{fill_none, fill_step}
 use Rattle.model.specs.Below.{list_below}
 use lib.ListN.{length, drop}
 use Prim.Native.Nat.{◌≤◌, ◌-◌}
 use mathlib.Core.List.{◌++◌}
 use mathlib.Core.Path.{◌≡◌}
-use native.Mathlib.Omega.{arith}
-use borrow.Author.Rules.{rules}
 use Rattle.maker.proofs.mask.Given as goal
 
 abbrev pub invariant-loop-e : goal.invariant-loop-e

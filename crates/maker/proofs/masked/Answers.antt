@@ -1,7 +1,5 @@
 -- `maker::masked` meets its contract. By the places of both its ends.
 use Rattle.maker.proofs.Edges.{masked_in, masked_later, masked_from}
-use borrow.Author.Rules.{rules}
-use borrow.Author.Rules.{rules}
 use Rattle.maker.proofs.masked.Goals as goal
 
 pub returns-then-index-k-2 : goal.returns-then-index-k-2

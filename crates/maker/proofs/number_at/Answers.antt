@@ -4,8 +4,6 @@ use Rattle.maker.specs.Renumbering.{table_by}
 use Rattle.maker.proofs.Rows.{number_core, number_read, number_execute, number_write, number_end}
 use Prim.Native.Nat.{ℕ, ◌+◌, ◌*◌}
 use mathlib.Core.Path.{ap, ◌∙◌}
-use borrow.Author.Rules.{rules}
-use borrow.Author.Rules.{rules}
 use Rattle.maker.proofs.number_at.Goals as goal
 
 pub returns-then-mark-eq0 : goal.returns-then-mark-eq0

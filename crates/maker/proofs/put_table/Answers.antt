@@ -6,8 +6,6 @@ use mathlib.Core.Path.{ap, ◌∙◌}
 use mathlib.Core.List.{List, ◌++◌}
 use Prim.Native.Nat.{◌*◌, ◌<◌}
 use native.Mathlib.Omega.{arith}
-use borrow.Author.Rules.{rules}
-use borrow.Author.Rules.{rules}
 use Rattle.maker.proofs.put_table.Goals as goal
 
 pub slice_bounds-put_rows-end : goal.slice_bounds-put_rows-end

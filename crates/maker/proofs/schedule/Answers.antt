@@ -1,8 +1,6 @@
 -- `maker::schedule` meets its contract. The choices of all places, then the winner.
 use Rattle.model.proofs.Below.{take_count}
 use native.Mathlib.Omega.{arith}
-use borrow.Author.Rules.{rules}
-use borrow.Author.Rules.{rules}
 use Rattle.maker.proofs.schedule.Goals as goal
 
 pub choose_all-requires : goal.choose_all-requires

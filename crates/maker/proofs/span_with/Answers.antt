@@ -3,8 +3,6 @@ use Rattle.maker.specs.Choosing.{span_with}
 use Rattle.maker.proofs.Choosing.{ready_long, few_with}
 use lib.ListN.{length-set}
 use mathlib.Core.Path.{refl}
-use borrow.Author.Rules.{rules}
-use borrow.Author.Rules.{rules}
 use Rattle.maker.proofs.span_with.Goals as goal
 
 pub settle-requires : goal.settle-requires

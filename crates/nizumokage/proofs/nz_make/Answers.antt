@@ -1,8 +1,6 @@
 -- `nizumokage::nz_make` meets its contract. By the case that was answered.
 use Rattle.nizumokage.proofs.Says.{says}
 use Rattle.model.specs.Answers.{made_says}
-use Prim.Native.Nat.{◌-◌}
-use borrow.Author.Rules.{rules}
 use Rattle.nizumokage.proofs.nz_make.Goals as goal
 
 pub returns-in-Scheduled : goal.returns-in-Scheduled

@@ -1,8 +1,6 @@
 -- `nizumokage::nz_read` meets its contract. By the case that was answered.
 use Rattle.nizumokage.proofs.Says.{says}
 use Rattle.model.specs.Answers.{decoded_says}
-use Prim.Native.Nat.{◌-◌}
-use borrow.Author.Rules.{rules}
 use Rattle.nizumokage.proofs.nz_read.Goals as goal
 
 pub returns-in-Numbers : goal.returns-in-Numbers

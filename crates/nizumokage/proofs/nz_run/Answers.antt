@@ -1,8 +1,6 @@
 -- `nizumokage::nz_run` meets its contract. By the case that was answered.
 use Rattle.nizumokage.proofs.Says.{says}
 use Rattle.model.specs.Answers.{played_says}
-use Prim.Native.Nat.{◌-◌}
-use borrow.Author.Rules.{rules}
 use Rattle.nizumokage.proofs.nz_run.Goals as goal
 
 pub returns-in-Finished : goal.returns-in-Finished

@@ -1,8 +1,6 @@
 -- `nizumokage::nz_verify` meets its contract. By the case that was answered.
 use Rattle.nizumokage.proofs.Says.{says}
 use Rattle.model.specs.Answers.{verdict_says}
-use Prim.Native.Nat.{◌-◌}
-use borrow.Author.Rules.{rules}
 use Rattle.nizumokage.proofs.nz_verify.Goals as goal
 
 pub returns-in-Accepted : goal.returns-in-Accepted

@@ -1,8 +1,6 @@
 -- `nizumokage::nz_write` meets its contract. By the case that was answered.
 use Rattle.nizumokage.proofs.Says.{says}
 use Rattle.model.specs.Answers.{written_says}
-use Prim.Native.Nat.{◌-◌}
-use borrow.Author.Rules.{rules}
 use Rattle.nizumokage.proofs.nz_write.Goals as goal
 
 pub returns-in-Stored : goal.returns-in-Stored

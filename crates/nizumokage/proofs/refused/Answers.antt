@@ -1,8 +1,6 @@
 -- `nizumokage::refused` meets its contract. Each field is the refusal's.
 use Rattle.nizumokage.proofs.Says.{says_no_lem}
-use Prim.Native.Nat.{◌-◌}
 use mathlib.Core.Path.{refl}
-use borrow.Author.Rules.{rules}
 use Rattle.nizumokage.proofs.refused.Goals as goal
 
 pub returns : goal.returns

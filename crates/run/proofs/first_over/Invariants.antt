@@ -1,13 +1,9 @@
 -- `run::first_over` meets its contract. No phase before this one has too many words.
 use Rattle.run.specs.Checks.{over_at}
-use Rattle.model.proofs.Below.{first_here, first_none}
 use lib.ListN.{length}
 use Prim.Native.Nat.{ℕ, ◌≤◌, ◌<◌, ◌-◌}
 use mathlib.Core.Bool.{false}
-use mathlib.Core.Path.{◌≡◌, sym, ◌∙◌}
-use native.Mathlib.Omega.{arith}
-use borrow.Author.Count.{below_more}
-use borrow.Author.Rules.{rules}
+use mathlib.Core.Path.{◌≡◌}
 use Rattle.run.proofs.first_over.Given as goal
 
 abbrev pub invariant-loop-x : goal.invariant-loop-x

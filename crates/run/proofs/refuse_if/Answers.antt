@@ -1,6 +1,5 @@
 -- `run::refuse_if` meets its contract. By the test.
 use Rattle.run.proofs.Checks.{refuse_yes}
-use borrow.Author.Rules.{rules}
 use Rattle.run.proofs.refuse_if.Goals as goal
 
 pub returns-then-bad : goal.returns-then-bad

@@ -3,7 +3,6 @@ use Rattle.run.proofs.Ways.{obeyed, unjudged}
 use Rattle.run.proofs.Entry.{few, room_cores, room_starts, room_ends, room_loads, few_loads, unplayed_at, playable_at, played_at}
 use Rattle.model.proofs.Below.{take_count}
 use native.Mathlib.Omega.{arith}
-use borrow.Author.Rules.{rules}
 use Rattle.run.proofs.run.Goals as goal
 
 pub overflow_mul-count : goal.overflow_mul-count

@@ -1,8 +1,6 @@
 -- `run::run_check` meets its contract.
 use Rattle.run.proofs.Checks.{served_bad, words_bad, room_bad}
-use Prim.Native.Nat.{◌-◌}
 use native.Mathlib.Omega.{arith}
-use borrow.Author.Rules.{rules}
 use Rattle.run.proofs.run_check.Goals as goal
 
 pub returns-then-cores-served : goal.returns-then-cores-served

@@ -1,8 +1,6 @@
 -- `run::words_check` meets its contract.
 use Rattle.run.proofs.Checks.{words_length, words_counts}
-use Prim.Native.Nat.{◌-◌}
 use native.Mathlib.Omega.{arith}
-use borrow.Author.Rules.{rules}
 use Rattle.run.proofs.words_check.Goals as goal
 
 pub returns-then-words-most : goal.returns-then-words-most
