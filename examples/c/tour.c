@@ -2,7 +2,7 @@
  * A tour of the library: reads plan.bin, makes its table, writes table.bin, and plays the bus with all declared words. Of each
  * phase that carries words it prints the window, when its last word was sent, its waits and the most that it may wait.
  *
- *   cc -I include examples/c/tour.c target/staticlib/libnizumokage.a -o target/tour && target/tour
+ *   cc -I include examples/c/tour.c crates/nizumokage/out/libnizumokage.a -o tour && ./tour
  */
 #include <stdio.h>
 

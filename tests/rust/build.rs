@@ -1,4 +1,4 @@
-//! Links target/staticlib/libnizumokage.a of the repository.
+//! Links crates/nizumokage/out/libnizumokage.a of the repository.
 
 use std::env;
 use std::path::{Path, PathBuf};
@@ -8,13 +8,13 @@ fn main() {
     if env::var_os("CARGO_FEATURE_PRODUCT").is_none() {
         return;
     }
-    let folder = repository().join("target").join("staticlib");
+    let folder = repository().join("crates/nizumokage/out");
     let archive = folder.join("libnizumokage.a");
     println!("cargo::rerun-if-changed={}", archive.display());
     if !archive.is_file() {
         println!(
-            "cargo::error=target/staticlib/libnizumokage.a is missing: \
-             run `rt staticlib nizumokage` in the repository's root first"
+            "cargo::error=crates/nizumokage/out/libnizumokage.a is missing: \
+             run `rt lib` in crates/nizumokage first"
         );
         return;
     }

@@ -10,7 +10,7 @@ use lib.ListN.{length, set, drop}
 use lib.Seq.{sets, sets-eq, length-sets}
 use borrow.Author.Tests.{lt-ltb, ne_eqb}
 use Rattle.model.specs.Plan.{Plan, Reading, tasks, edges, key_of, field_of, no_plan, with_bus, with_task, with_edge, least_key, on_with, reading_from, reading_of}
-use Rattle.model.specs.Plan.{seen as seenOf}
+use Rattle.model.specs.Plan.{seen as seen_of}
 use Rattle.model.specs.declared.Bus.{Bus}
 use Rattle.model.specs.declared.Refusal.{Refusal}
 use Rattle.model.specs.declared.Check.{Check}
@@ -74,7 +74,7 @@ least_edge p from to words h =
 pub record From (bytes costs₀ sources₀ targets₀ amounts₀ costs sources targets amounts : List ℕ) (b : Bus) (s : Seen) : Type 0 where
   pub sofar : Plan
   pub bus : b ≡ sofar.bus
-  pub seen : s ≡ seenOf s.at sofar
+  pub seen : s ≡ seen_of s.at sofar
   pub partly : Partly bytes s.at sofar
   pub within : s.at ≤ length bytes
   pub same : reading_from bytes s.at sofar ≡ reading_of bytes
@@ -106,7 +106,7 @@ module _ (bytes c₀ s₀ t₀ a₀ c s t a : List ℕ) (b : Bus) (k : Seen) (f 
 
   reading : {y : Taken} → x ≡ y → on_with f.sofar y (reading_from bytes) ≡ reading_of bytes
   reading {y} e =
-      let q : field_of bytes (seenOf k.at f.sofar) ≡ y = ap (field_of bytes) (sym f.seen) ∙ (sym ex ∙ e) in
+      let q : field_of bytes (seen_of k.at f.sofar) ≡ y = ap (field_of bytes) (sym f.seen) ∙ (sym ex ∙ e) in
       ap (λ (z : Taken). on_with f.sofar z (reading_from bytes)) (sym q) ∙ (sym (reading_on bytes k.at f.sofar f.within) ∙ f.same)
 
   tasks_is : k.tasks ≡ tasks f.sofar
@@ -123,7 +123,7 @@ module _ (bytes c₀ s₀ t₀ a₀ c s t a : List ℕ) (b : Bus) (k : Seen) (f 
 
   from_header : {given : Bus} {next : ℕ} → x ≡ Header given next → From bytes c₀ s₀ t₀ a₀ c s t a given (after_header k next)
   from_header {given} {next} e =
-      let w : HeaderTaken bytes (seenOf k.at f.sofar) given next = subst (λ (z : Seen). HeaderTaken bytes z given next) f.seen (gave e) in
+      let w : HeaderTaken bytes (seen_of k.at f.sofar) given next = subst (λ (z : Seen). HeaderTaken bytes z given next) f.seen (gave e) in
       record {
         sofar = with_bus f.sofar given;
         bus = refl;
@@ -139,7 +139,7 @@ module _ (bytes c₀ s₀ t₀ a₀ c s t a : List ℕ) (b : Bus) (k : Seen) (f 
 
   from_task : {cost next : ℕ} → x ≡ Task cost next → From bytes c₀ s₀ t₀ a₀ (set c k.tasks cost) s t a b (after_task k next)
   from_task {cost} {next} e =
-      let w : TaskTaken bytes (seenOf k.at f.sofar) cost next = subst (λ (z : Seen). TaskTaken bytes z cost next) f.seen (gave e) in
+      let w : TaskTaken bytes (seen_of k.at f.sofar) cost next = subst (λ (z : Seen). TaskTaken bytes z cost next) f.seen (gave e) in
       record {
         sofar = with_task f.sofar cost;
         bus = f.bus;
@@ -158,7 +158,7 @@ module _ (bytes c₀ s₀ t₀ a₀ c s t a : List ℕ) (b : Bus) (k : Seen) (f 
   from_edge : {from to words next : ℕ} → x ≡ Edge from to words next
       → From bytes c₀ s₀ t₀ a₀ c (set s k.edges from) (set t k.edges to) (set a k.edges words) b (after_edge k from to next)
   from_edge {from} {to} {words} {next} e =
-      let w : EdgeTaken bytes (seenOf k.at f.sofar) from to words next = subst (λ (z : Seen). EdgeTaken bytes z from to words next) f.seen (gave e) in
+      let w : EdgeTaken bytes (seen_of k.at f.sofar) from to words next = subst (λ (z : Seen). EdgeTaken bytes z from to words next) f.seen (gave e) in
       let v = f.partly.ranges in
       record {
         sofar = with_edge f.sofar from to words;

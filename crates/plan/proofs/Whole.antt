@@ -10,7 +10,7 @@ use Rattle.model.specs.Below.{at}
 use Rattle.model.specs.Refusals.{refusal, refuse_if, gives, refuses}
 use Rattle.model.specs.Field.{plan_step}
 use Rattle.model.specs.Plan.{Plan, tasks, edges, source, target, reading_of}
-use Rattle.model.specs.Plan.{tasks as tasksOf}
+use Rattle.model.specs.Plan.{tasks as tasks_of}
 use Rattle.model.specs.Plan.{edges as edges_of}
 use Rattle.model.specs.Graph.{list_order, left_over, plan_of}
 use Rattle.model.specs.declared.Fault.TheVariants.{Cyclic}
@@ -224,7 +224,7 @@ pub record Known (bytes : List ℕ) (c : Columns) (p : Plan) : Type 0 where
   pub read : Read bytes p
   pub full : left_over p ≡ false
   pub bus : c.bus ≡ p.bus
-  pub tasks : c.tasks ≡ tasksOf p
+  pub tasks : c.tasks ≡ tasks_of p
   pub edges : c.edges ≡ edges_of p
   pub costs : take c.tasks c.costs ≡ p.costs
   pub order : take c.tasks c.order ≡ list_order p
@@ -248,8 +248,8 @@ known bytes g =
       bus = refl;
       tasks = refl;
       edges = refl;
-      costs = filled_take p.costs (replicate 64 0) (tasksOf p) refl (omega (arith, v.few_tasks, zeros 64));
-      order = rw q (filled_take (list_order p) (replicate 64 0) (tasksOf p) (sym (order_length p f)) (omega (arith, order_length p f, v.few_tasks, zeros 64)));
+      costs = filled_take p.costs (replicate 64 0) (tasks_of p) refl (omega (arith, v.few_tasks, zeros 64));
+      order = rw q (filled_take (list_order p) (replicate 64 0) (tasks_of p) (sym (order_length p f)) (omega (arith, order_length p f, v.few_tasks, zeros 64)));
       sources = filled_take p.sources (replicate 256 0) (edges_of p) refl (omega (arith, v.few_edges, zeros 256));
       targets = filled_take p.targets (replicate 256 0) (edges_of p) (sym v.targets_all) (omega (arith, v.few_edges, v.targets_all, zeros 256));
       amounts = filled_take p.amounts (replicate 256 0) (edges_of p) (sym v.amounts_all) (omega (arith, v.few_edges, v.amounts_all, zeros 256));

@@ -263,7 +263,7 @@ pub fn place_after(plan: &[u8], at: usize) -> usize
     }
 }
 
-// The reader: it holds the lent plan bytes and its position. Each function over it is thin, and proved by a walk.
+// The reader: it holds the lent plan bytes and its position. Each function over it is thin.
 #[derive(Clone, Copy)]
 pub struct Reader<'a> {
     pub plan: &'a [u8],
@@ -291,7 +291,7 @@ pub fn advanced<'a>(r: Reader<'a>) -> Reader<'a>
     Reader { plan: r.plan, at }
 }
 
-// What a reader at a position gives: its parameters are plain, so its callers need no walk.
+// What a reader at a position gives.
 pub fn step_from(plan: &[u8], at: usize) -> Step
     ensures { result ≡ plan_step plan.now at }
 {

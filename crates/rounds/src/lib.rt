@@ -4,7 +4,7 @@
 
 ghost use Rattle.std.specs.Prelude.{◌≡◌, ◌++◌, ℕ, ◌+◌, ◌*◌, ◌-◌, ◌/◌, ◌≤◌, ◌<◌, max, ltb, length, drop, set};
 ghost use Rattle.model.specs.Below.{at, max_below, any_below, list_below};
-ghost use Rattle.model.specs.Counts.{delay as delayOf, most_words, Settings};
+ghost use Rattle.model.specs.Counts.{delay as delay_of, most_words, Settings};
 ghost use Rattle.model.specs.Contention.{phase_words};
 ghost use Rattle.model.specs.Rules.{delay_at};
 ghost use Rattle.model.specs.ListRule.{core_in, first_lengths, settled, finished, makespan_of};
@@ -53,7 +53,7 @@ fn fill_words(
 // Step 1: window lengths start at the delay with no rivals.
 fn first_lengths(bus: Bus, words: &[u32], count: usize, lengths: &mut [u32])
     requires { Settings bus × (count ≤ length words.now) × (count ≤ length lengths.old) × ((x : ℕ) → x < count → at words.now x ≤ most_words) }
-    ensures { lengths.new ≡ list_below (λ x. delayOf bus (at words.now x) 0) count ++ drop count lengths.old }
+    ensures { lengths.new ≡ list_below (λ x. delay_of bus (at words.now x) 0) count ++ drop count lengths.old }
 {
     for x in 0..count {
         let delay = model::delay(bus, Words(words[x]), 0);

@@ -8,7 +8,7 @@ ghost use Rattle.model.specs.Plan.{Valid};
 ghost use Rattle.model.specs.Refusals.{refusal, refuse_if, first_bad};
 ghost use Rattle.model.specs.Table.{of_numbers};
 ghost use Rattle.model.specs.Contention.{phase_words};
-ghost use Rattle.model.specs.Rules.{execute_at, edge_at, crossing, cross_at, window_at, makespan as greatestEnd};
+ghost use Rattle.model.specs.Rules.{execute_at, edge_at, crossing, cross_at, window_at, makespan as greatest_end};
 ghost use Rattle.model.specs.Answers.{verdict_of};
 ghost use Rattle.contention.specs.Columns.{phases_by, core_column, start_column, end_column, Sized, edges_by, Edges};
 ghost use Rattle.verifier.specs.Columns.{tasks_by, edges_of, shape_by, plan_by, Between, lasts_at};
@@ -178,7 +178,7 @@ fn windows(bus: Bus, core: &[u32], start: &[u32], end: &[u32], words: &[u32], co
 // The greatest end.
 fn makespan(table: &[u32], tasks: usize) -> u32
     requires { (tasks ≤ 64) × (5 * tasks ≤ length table.now) }
-    ensures { result ≡ greatestEnd tasks (of_numbers table.now) }
+    ensures { result ≡ greatest_end tasks (of_numbers table.now) }
 {
     let mut most: u32 = 0;
     for i in 0..tasks {
