@@ -2,7 +2,7 @@
 // and the place.
 #![tactic(auto)]
 
-ghost use Rattle.std.specs.Prelude.{◌≤◌, length, IfOk};
+ghost use Rattle.std.specs.Prelude.{◌≡◌, ◌≤◌, length, take, IfOk};
 
 use model::Verdict;
 use std::fs::File;
@@ -10,7 +10,7 @@ use std::io;
 
 // At most as many bytes of a file as fit; none of one that can't be opened.
 fn load(rt: &HostRuntime, path: &str, buf: &mut [u8]) -> io::Result<usize>
-    ensures { IfOk result (λ n. n ≤ length buf.new) }
+    ensures { IfOk result (λ n. (n ≤ length buf.new) × (n ≡ length (take n buf.new))) }
 {
     match File::open(rt, path) {
         Ok(mut file) => input::read_front(&mut file, buf),
