@@ -198,6 +198,7 @@ fn exclusive_start(
 }
 
 // R of place a, by its mode.
+#[tactic(auto, using(crate::proofs::Places::starts_overlapping))]
 fn start_at(
     costs: &[u32],
     sources: &[u8],

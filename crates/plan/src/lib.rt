@@ -100,6 +100,7 @@ pub fn step_in(side: Side, s: &[u8], place: usize) -> Step
 }
 
 // The settings that tag 1 takes.
+#[tactic(auto, unfolding(model::specs::Plan::settings_good))]
 fn settings_good(cores: u8, t: u8, d: u8) -> bool
     ensures { result ≡ settings_good cores t d }
 {
