@@ -8,7 +8,7 @@ use lib.Seq.{drop-append_seam}
 use borrow.Author.Tests.{ltb-false}
 use lib.Dec.{ltb}
 use Rattle.model.specs.Below.{at}
-use Rattle.model.specs.Refusals.{Outcome, gives, refuses, or_else}
+use Rattle.model.specs.Refusals.{Outcome, or_else}
 use Rattle.model.specs.Plan.{Plan, tasks, cores}
 use Rattle.model.specs.Graph.{plan_of}
 use Rattle.model.specs.Table.{of_numbers, of_bytes, numbers_at, numbers, bytes_at, bytes, table_of, table_check, values_check, four_bytes, field_bytes}
@@ -18,13 +18,7 @@ use Rattle.model.specs.BusRule.{Use, answers}
 use Rattle.model.specs.ListRule.{made_bytes, made_makespan}
 use Rattle.model.specs.Answers.{Judged, judged, verdict_by, verdict_of, room, making, made_by, made_of, made_output, writing, written_by, written_of, written_output, decoding, decoded_by, decoded_of, decoded_output, playing, played_by, played_of, played_output, served_check, words_check}
 use Rattle.model.specs.declared.Refusal.{Refusal}
-use Rattle.model.specs.declared.Check.TheVariants.{Good}
 use Rattle.model.specs.declared.Time.{Time}
-use Rattle.model.specs.declared.Verdict.{Verdict}
-use Rattle.model.specs.declared.Decoded.{Decoded}
-use Rattle.model.specs.declared.Written.{Written}
-use Rattle.model.specs.declared.Made.{Made}
-use Rattle.model.specs.declared.Played.{Played}
 use Rattle.model.proofs.Refusals.{passed, and_then_lem, or_good, not_refused}
 use Rattle.model.proofs.RoundTrip.{blocks_length}
 use Rattle.model.proofs.Verdicts.{accepts_facts, accepts_test}
@@ -36,6 +30,7 @@ use Rattle.run.proofs.Ways.{answers_length}
 use Rattle.run.proofs.Obeying.{run_obeys}
 use Rattle.demands.specs.Demands.{Front, Demand1, Demand2, Demand3}
 use Rattle.demands.proofs.Numbers.{judged_has, reading_has, writing_has, making_has, playing_has}
+use Rattle.std.specs.Prelude.{Ok, Err}
 
 -- ---- a lent output: unchanged where nothing is given, and where a front is given that fits, changed there alone
 front_is : (front out : List ℕ) (n : ℕ) → length front ≡ n → n ≤ length out → Front n out (front ++ drop (length front) out)
@@ -46,46 +41,46 @@ front_is front out n e k =
       rest = rw (← e) (drop-append_seam front (drop (length front) out));
     }
 
-room_fits : (n : ℕ) (out : List ℕ) → room n out ≡ Good → n ≤ length out
+room_fits : (n : ℕ) (out : List ℕ) → room n out ≡ Ok tt → n ≤ length out
 unfolding room
 room_fits n out g = ltb-false (length out) n (not_refused (ltb (length out) n) _ g)
 
 -- an outcome whose answer is a refusal refuses; one whose answer is not, gives
-verdict_no : {r : Refusal} (o : Outcome Judged) → verdict_by o ≡ Verdict.Refused r → o ≡ refuses r
-verdict_no (gives j) e = cc
-verdict_no (refuses r) e = cc
+verdict_no : {r : Refusal} (o : Outcome Judged) → verdict_by o ≡ Err r → o ≡ Err r
+verdict_no (Ok j) e = cc
+verdict_no (Err r) e = cc
 
-decoded_no : {r : Refusal} (o : Outcome (List ℕ)) → decoded_by o ≡ Decoded.Refused r → o ≡ refuses r
-decoded_no (gives v) e = cc
-decoded_no (refuses r) e = cc
+decoded_no : {r : Refusal} (o : Outcome (List ℕ)) → decoded_by o ≡ Err r → o ≡ Err r
+decoded_no (Ok v) e = cc
+decoded_no (Err r) e = cc
 
-written_no : {r : Refusal} (o : Outcome (List ℕ)) → written_by o ≡ Written.Refused r → o ≡ refuses r
-written_no (gives v) e = cc
-written_no (refuses r) e = cc
+written_no : {r : Refusal} (o : Outcome (List ℕ)) → written_by o ≡ Err r → o ≡ Err r
+written_no (Ok v) e = cc
+written_no (Err r) e = cc
 
-made_no : {r : Refusal} (o : Outcome Plan) → made_by o ≡ Made.Refused r → o ≡ refuses r
-made_no (gives p) e = cc
-made_no (refuses r) e = cc
+made_no : {r : Refusal} (o : Outcome Plan) → made_by o ≡ Err r → o ≡ Err r
+made_no (Ok p) e = cc
+made_no (Err r) e = cc
 
-played_no : {r : Refusal} (o : Outcome (List ℕ)) → played_by o ≡ Played.Refused r → o ≡ refuses r
-played_no (gives v) e = cc
-played_no (refuses r) e = cc
+played_no : {r : Refusal} (o : Outcome (List ℕ)) → played_by o ≡ Err r → o ≡ Err r
+played_no (Ok v) e = cc
+played_no (Err r) e = cc
 
-decoded_yes : (o : Outcome (List ℕ)) → decoded_by o ≡ Decoded.Numbers → (v : List ℕ) × (o ≡ gives v)
-decoded_yes (gives v) e = (v, refl)
-decoded_yes (refuses r) e = let z : ◌≡◌ {A = ℕ} 0 1 = cc in absurd (omega arith)
+decoded_yes : (o : Outcome (List ℕ)) → decoded_by o ≡ Ok tt → (v : List ℕ) × (o ≡ Ok v)
+decoded_yes (Ok v) e = (v, refl)
+decoded_yes (Err r) e = let z : ◌≡◌ {A = ℕ} 0 1 = cc in absurd (omega arith)
 
-written_yes : (o : Outcome (List ℕ)) → written_by o ≡ Written.Stored → (v : List ℕ) × (o ≡ gives v)
-written_yes (gives v) e = (v, refl)
-written_yes (refuses r) e = let z : ◌≡◌ {A = ℕ} 0 1 = cc in absurd (omega arith)
+written_yes : (o : Outcome (List ℕ)) → written_by o ≡ Ok tt → (v : List ℕ) × (o ≡ Ok v)
+written_yes (Ok v) e = (v, refl)
+written_yes (Err r) e = let z : ◌≡◌ {A = ℕ} 0 1 = cc in absurd (omega arith)
 
-played_yes : (o : Outcome (List ℕ)) → played_by o ≡ Played.Finished → (v : List ℕ) × (o ≡ gives v)
-played_yes (gives v) e = (v, refl)
-played_yes (refuses r) e = let z : ◌≡◌ {A = ℕ} 0 1 = cc in absurd (omega arith)
+played_yes : (o : Outcome (List ℕ)) → played_by o ≡ Ok tt → (v : List ℕ) × (o ≡ Ok v)
+played_yes (Ok v) e = (v, refl)
+played_yes (Err r) e = let z : ◌≡◌ {A = ℕ} 0 1 = cc in absurd (omega arith)
 
-made_yes : (o : Outcome Plan) {m : Time} → made_by o ≡ Made.Scheduled m → (p : Plan) × (o ≡ gives p) × (m ≡ record { 0 = made_makespan p })
-made_yes (gives p) e = (p, refl, cc)
-made_yes (refuses r) e = let z : ◌≡◌ {A = ℕ} 0 1 = cc in absurd (omega arith)
+made_yes : (o : Outcome Plan) {m : Time} → made_by o ≡ Ok m → (p : Plan) × (o ≡ Ok p) × (m ≡ record { 0 = made_makespan p })
+made_yes (Ok p) e = (p, refl, cc)
+made_yes (Err r) e = let z : ◌≡◌ {A = ℕ} 0 1 = cc in absurd (omega arith)
 
 -- ---- what each success gives
 bytes_long : (p : Plan) (v : List ℕ) → length (bytes (of_numbers v) (tasks p)) ≡ 20 * tasks p
@@ -96,8 +91,8 @@ made_long : (p : Plan) → length (made_bytes p) ≡ 20 * tasks p
 unfolding made_bytes field_bytes four_bytes
 made_long p = blocks_length (bytes_at _) 20 (λ i. refl) (tasks p)
 
-read_gives : (p s out : List ℕ) → decoded_of p s out ≡ Decoded.Numbers
-    → (plan : Plan) × (plan_of p ≡ gives plan) × Front (5 * tasks plan) out (decoded_output p s out)
+read_gives : (p s out : List ℕ) → decoded_of p s out ≡ Ok tt
+    → (plan : Plan) × (plan_of p ≡ Ok plan) × Front (5 * tasks plan) out (decoded_output p s out)
 unfolding decoded_of decoded_output decoding table_of numbers_at
 read_gives p s out e =
     let g = decoded_yes (decoding p s out) e in
@@ -107,8 +102,8 @@ read_gives p s out e =
     let long : length v ≡ 5 * tasks plan = ap length (sym (passed (table_check plan s) (numbers (of_bytes s) (tasks plan)) ev).1) ∙ blocks_length (numbers_at (of_bytes s)) 5 (λ i. refl) (tasks plan) in
     (plan, ep, rw (ep, ev, e3, ← (passed (room (5 * tasks plan) out) v e3).1) (front_is v out (5 * tasks plan) long fits))))
 
-write_gives : (p v out : List ℕ) → written_of p v out ≡ Written.Stored
-    → (plan : Plan) × (plan_of p ≡ gives plan) × Front (20 * tasks plan) out (written_output p v out)
+write_gives : (p v out : List ℕ) → written_of p v out ≡ Ok tt
+    → (plan : Plan) × (plan_of p ≡ Ok plan) × Front (20 * tasks plan) out (written_output p v out)
 unfolding written_of written_output writing
 write_gives p v out e =
     let g = written_yes (writing p v out) e in
@@ -117,8 +112,8 @@ write_gives p v out e =
     let fits = room_fits (20 * tasks plan) out (or_good (values_check (cores plan) (tasks plan) v) _ checks.0).1 in
     (plan, ep, rw (ep, checks.0) (front_is (bytes (of_numbers v) (tasks plan)) out (20 * tasks plan) (bytes_long plan v) fits)))
 
-make_gives : (p out : List ℕ) (m : Time) → made_of p out ≡ Made.Scheduled m
-    → (plan : Plan) × (plan_of p ≡ gives plan) × (making p out ≡ gives plan) × (20 * tasks plan ≤ length out) × (m ≡ record { 0 = made_makespan plan })
+make_gives : (p out : List ℕ) (m : Time) → made_of p out ≡ Ok m
+    → (plan : Plan) × (plan_of p ≡ Ok plan) × (making p out ≡ Ok plan) × (20 * tasks plan ≤ length out) × (m ≡ record { 0 = made_makespan plan })
 unfolding made_of making
 make_gives p out m e =
     let g = made_yes (making p out) e in
@@ -127,9 +122,9 @@ make_gives p out m e =
     let fits = room_fits (20 * tasks plan) out checks.0 in
     (plan, ep, rw (ep, checks.0), fits, g.2 ∙ ap (λ (q : Plan). record { 0 = made_makespan q }) (sym checks.1)))
 
-play_gives : (p s : List ℕ) (served : ℕ) (words out : List ℕ) → played_of p s served words out ≡ Played.Finished
-    → (j : Judged) × (judged p s ≡ gives j) × (4 * tasks j.plan ≤ length out)
-    × (playing p s served words out ≡ gives (answers j.plan.bus (phases_of j.plan (of_numbers j.table)) (record { served = served; actual = at words })))
+play_gives : (p s : List ℕ) (served : ℕ) (words out : List ℕ) → played_of p s served words out ≡ Ok tt
+    → (j : Judged) × (judged p s ≡ Ok j) × (4 * tasks j.plan ≤ length out)
+    × (playing p s served words out ≡ Ok (answers j.plan.bus (phases_of j.plan (of_numbers j.table)) (record { served = served; actual = at words })))
 unfolding played_of playing
 play_gives p s served words out e =
     let g = played_yes (playing p s served words out) e in
@@ -139,13 +134,13 @@ play_gives p s served words out e =
     let fits = room_fits (4 * tasks j.plan) out (or_good (words_check j words) _ behind).1 in
     (j, ej, fits, rw (ej, all.0)))
 
-judged_plan : (p s : List ℕ) (j : Judged) → judged p s ≡ gives j → plan_of p ≡ gives j.plan
+judged_plan : (p s : List ℕ) (j : Judged) → judged p s ≡ Ok j → plan_of p ≡ Ok j.plan
 unfolding judged
 judged_plan p s j e =
     and_then_lem (plan_of p) _ e (λ plan ep e2.
     and_then_lem (table_of plan s) _ e2 (λ v ev e3.
     let g = passed (rules_check plan (of_numbers v)) (record { plan = plan; table = v }) e3 in
-    ep ∙ ap (λ (k : Judged). gives k.plan) g.1))
+    ep ∙ ap (λ (k : Judged). Ok k.plan) g.1))
 
 -- ---- the demands
 pub demand_1 : Demand1
@@ -187,7 +182,7 @@ demand_2 =
       broken = rule_test;
       makes = λ p out m e.
           let g = make_gives p out m e in
-          (g.0, g.1, rw g.2, g.4, verify_made p g.1 ∙ ap Verdict.Accepted (sym g.4));
+          (g.0, g.1, rw g.2, g.4, verify_made p g.1 ∙ ap Ok (sym g.4));
       reads_back = read_write;
       writes_back = write_read;
       plays = λ p s served words out e.

@@ -8,8 +8,8 @@ use native.Mathlib.Omega.{arith}
 use lib.ListN.{length}
 use lib.Dec.{ltb, leb, eqb}
 use Rattle.model.specs.Below.{at, join_below, first_below}
-use Rattle.model.specs.Refusals.{refusal, refuse_if, or_else, first_bad, Outcome, gives, refuses, passing, and_then}
-use Rattle.model.specs.Field.{two, body_of, step_in, plan_step, table_step}
+use Rattle.model.specs.Refusals.{refusal, refuse_if, or_else, first_bad, Outcome, passing, and_then, Check}
+use Rattle.model.specs.Field.{two, body_of, step_in, plan_step, table_step, Step}
 use Rattle.model.specs.Plan.{Plan, tasks, cores, key_of, settings_good, in_order, header_in, task_in, edge_in, field_by, field_of, seen, on_with, with_bus, with_task, with_edge, fields_from, reading_from, reading_of, no_plan}
 use Rattle.model.specs.Graph.{left_over, plan_of}
 use Rattle.model.specs.Table.{Table, of_numbers, of_bytes, numbers, non_falling, values_of, values_at, row_by, row_at, rows_check, table_check, table_of, values_check}
@@ -20,22 +20,19 @@ use Rattle.model.specs.declared.Fault.TheVariants.{Cyclic, OutputShort, FieldCou
 use Rattle.model.specs.declared.Side.{Side}
 use Rattle.model.specs.declared.Side.TheVariants.{OfNeither, OfPlan, OfTable}
 use Rattle.model.specs.declared.Refusal.{Refusal}
-use Rattle.model.specs.declared.Check.{Check}
-use Rattle.model.specs.declared.Check.TheVariants.{Good, Bad}
 use Rattle.model.specs.declared.Seen.{Seen}
 use Rattle.model.specs.declared.Taken.{Taken}
-use Rattle.model.specs.declared.Taken.TheVariants.{Header, Task, Edge, Complete, Refused}
-use Rattle.model.specs.declared.Step.{Step}
-use Rattle.model.specs.declared.Step.TheVariants.{Field, End, Broken}
+use Rattle.model.specs.declared.Taken.TheVariants.{Header, Task, Edge}
 use Rattle.model.proofs.Tests.{cond_is}
 use Rattle.model.proofs.Verdicts.{rules_facts}
 use Rattle.demands.specs.Demands.{Numbered, ByPlan, ByTable, ByVerifier}
+use Rattle.std.specs.Prelude.{Ok, Err}
 
 -- ---- what is refused, if anything is, has P
 module _ (P : Refusal → Type 0) where
   abbrev Checked : Check → Type 0
-  Checked Good = Unit {0}
-  Checked (Bad r) = P r
+  Checked (Ok tt) = Unit {0}
+  Checked (Err r) = P r
 
   abbrev Stepped : Step → Type 0
   Stepped (Field tag place body) = Unit {0}
@@ -50,8 +47,8 @@ module _ (P : Refusal → Type 0) where
   Took (Refused r) = P r
 
   abbrev Came : {A : Type 0} → Outcome A → Type 0
-  Came (gives a) = Unit {0}
-  Came (refuses r) = P r
+  Came (Ok a) = Unit {0}
+  Came (Err r) = P r
 
   if_has : (b : Bool) (f : Fault) (side : Side) (place : ℕ) → ((k : ℕ) → P (refusal f side k))
       → Checked (refuse_if b (refusal f side place))
@@ -59,8 +56,8 @@ module _ (P : Refusal → Type 0) where
   if_has false f side place h = tt
 
   or_has : (a b : Check) → Checked a → Checked b → Checked (or_else a b)
-  or_has Good b h k = k
-  or_has (Bad r) b h k = h
+  or_has (Ok tt) b h k = k
+  or_has (Err r) b h k = h
 
   first_has : (f : ℕ → Check) → ((i : ℕ) → Checked (f i)) → (n : ℕ) → Checked (first_bad f n)
   unfolding join_below
@@ -68,13 +65,13 @@ module _ (P : Refusal → Type 0) where
   first_has f h (suc n) = or_has (first_bad f n) (f n) (first_has f h n) (h n)
 
   -- by facts of what the check refuses
-  when_bad : (c : Check) → ((r : Refusal) → c ≡ Bad r → P r) → Checked c
-  when_bad Good f = tt
-  when_bad (Bad r) f = f r refl
+  when_bad : (c : Check) → ((r : Refusal) → c ≡ Err r → P r) → Checked c
+  when_bad (Ok tt) f = tt
+  when_bad (Err r) f = f r refl
 
   pass_has : {A : Type 0} (c : Check) (a : A) → Checked c → Came (passing c a)
-  pass_has Good a h = tt
-  pass_has (Bad r) a h = h
+  pass_has (Ok tt) a h = tt
+  pass_has (Err r) a h = h
 
 -- ---- two steps in order: what the first refuses has P, what the second refuses has Q
 module _ (P Q : Refusal → Type 0) where
@@ -82,21 +79,21 @@ module _ (P Q : Refusal → Type 0) where
   Either r = P r ⊎ Q r
 
   second_check : (b : Check) → Checked Q b → Checked Either b
-  second_check Good k = tt
-  second_check (Bad r) k = inr k
+  second_check (Ok tt) k = tt
+  second_check (Err r) k = inr k
 
   both_check : (a b : Check) → Checked P a → Checked Q b → Checked Either (or_else a b)
-  both_check Good b h k = second_check b k
-  both_check (Bad r) b h k = inl h
+  both_check (Ok tt) b h k = second_check b k
+  both_check (Err r) b h k = inl h
 
   second_came : {B : Type 0} (o : Outcome B) → Came Q o → Came Either o
-  second_came (gives b) k = tt
-  second_came (refuses r) k = inr k
+  second_came (Ok b) k = tt
+  second_came (Err r) k = inr k
 
   both_came : {A B : Type 0} (o : Outcome A) (next : A → Outcome B) → Came P o → ((a : A) → Came Q (next a))
       → Came Either (and_then o next)
-  both_came (gives a) next h k = second_came (next a) (k a)
-  both_came (refuses r) next h k = inl h
+  both_came (Ok a) next h k = second_came (next a) (k a)
+  both_came (Err r) next h k = inl h
 
 -- ---- a step: 1 to 3, of the side that is read
 step_has : (side : Side) (s : List ℕ) (place : ℕ) → Stepped (Numbered side 1 3) (step_in side s place)

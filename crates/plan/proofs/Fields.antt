@@ -9,18 +9,17 @@ use lib.Dec.{eqb}
 use lib.ListN.{length, set, drop}
 use lib.Seq.{sets, sets-eq, length-sets}
 use borrow.Author.Tests.{lt-ltb, ne_eqb}
-use Rattle.model.specs.Plan.{Plan, Reading, tasks, edges, key_of, field_of, no_plan, with_bus, with_task, with_edge, least_key, on_with, reading_from, reading_of}
-use Rattle.model.specs.Plan.{seen as seen_of}
+use Rattle.model.specs.Plan.{Plan, Reading, tasks, edges, key_of, field_of, no_plan, with_bus, with_task, with_edge, least_key, on_with, reading_from, reading_of, seen as seen_of}
 use Rattle.model.specs.declared.Bus.{Bus}
 use Rattle.model.specs.declared.Refusal.{Refusal}
-use Rattle.model.specs.declared.Check.{Check}
-use Rattle.model.specs.declared.Check.TheVariants.{Good, Bad}
 use Rattle.model.specs.declared.Seen.{Seen}
 use Rattle.model.specs.declared.Taken.{Taken}
-use Rattle.model.specs.declared.Taken.TheVariants.{Header, Task, Edge, Complete, Refused}
+use Rattle.model.specs.declared.Taken.TheVariants.{Header, Task, Edge}
 use Rattle.model.proofs.Plan.{Took, HeaderTaken, TaskTaken, EdgeTaken, took, reading_on, snoc_length, snoc_new, Partly, partly_none, partly_header, partly_task, partly_edge}
 use Rattle.plan.specs.Planned.{parsed_by, filled, after_header, after_task, after_edge}
 use Rattle.plan.specs.declared.Parsed.{Parsed}
+use Rattle.std.specs.Prelude.{Ok, Err}
+use Rattle.model.specs.Refusals.{Check}
 
 -- ---- columns
 pub filled_none : (l : List ℕ) → l ≡ filled [] l
@@ -223,8 +222,8 @@ module _ (bytes c₀ s₀ t₀ a₀ c s t a : List ℕ) (b : Bus) (k : Seen) (f 
   shaped : (x : Check) → (record { check = x; shape = record { bus = b; tasks = k.tasks; edges = k.edges } }) ≡ parsed_by (record { plan = f.sofar; check = x })
   shaped x = λ i. record { check = x; shape = record { bus = f.bus i; tasks = tasks_is i; edges = edges_is i } }
 
-  pub from_complete : x ≡ Complete → Ended (record { check = Good; shape = record { bus = b; tasks = k.tasks; edges = k.edges } })
-  from_complete e = ended _ (record { plan = f.sofar; check = Good }) refl (reading e) (shaped Good)
+  pub from_complete : x ≡ Complete → Ended (record { check = (Ok tt); shape = record { bus = b; tasks = k.tasks; edges = k.edges } })
+  from_complete e = ended _ (record { plan = f.sofar; check = (Ok tt) }) refl (reading e) (shaped (Ok tt))
 
-  pub from_refused : {r : Refusal} → x ≡ Refused r → Ended (record { check = Bad r; shape = record { bus = b; tasks = k.tasks; edges = k.edges } })
-  from_refused {r} e = ended _ (record { plan = f.sofar; check = Bad r }) refl (reading e) (shaped (Bad r))
+  pub from_refused : {r : Refusal} → x ≡ Refused r → Ended (record { check = Err r; shape = record { bus = b; tasks = k.tasks; edges = k.edges } })
+  from_refused {r} e = ended _ (record { plan = f.sofar; check = Err r }) refl (reading e) (shaped (Err r))

@@ -15,7 +15,7 @@ use Rattle.model.specs.declared.Fault.TheVariants.{TagUnknown, ValueOutOfRange, 
 use Rattle.model.specs.declared.Side.TheVariants.{OfPlan}
 use Rattle.model.specs.declared.Seen.{Seen}
 use Rattle.model.specs.declared.Taken.{Taken}
-use Rattle.model.specs.declared.Taken.TheVariants.{Header, Task, Edge, Refused}
+use Rattle.model.specs.declared.Taken.TheVariants.{Header, Task, Edge}
 
 module _ (bytes : List ℕ) (place c t d : ℕ) (g : Bool) (ec : c ≡ at bytes (place + 3)) (et : t ≡ at bytes (place + 4)) (ed : d ≡ at bytes (place + 5)) (eg : g ≡ settings_good c t d) where
   pub header_good : (c' t' d' : ℕ) → c' ≡ c → t' ≡ t → d' ≡ d → g ≡ true

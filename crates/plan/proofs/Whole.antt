@@ -7,18 +7,13 @@ use native.Mathlib.Omega.{arith}
 use lib.ListN.{length, drop, take, replicate, length-replicate, get_or-append}
 use lib.Seq.{take-append_seam}
 use Rattle.model.specs.Below.{at}
-use Rattle.model.specs.Refusals.{refusal, refuse_if, gives, refuses}
-use Rattle.model.specs.Field.{plan_step}
-use Rattle.model.specs.Plan.{Plan, tasks, edges, source, target, reading_of}
-use Rattle.model.specs.Plan.{tasks as tasks_of}
-use Rattle.model.specs.Plan.{edges as edges_of}
+use Rattle.model.specs.Refusals.{refusal, refuse_if, Check}
+use Rattle.model.specs.Field.{plan_step, Step}
+use Rattle.model.specs.Plan.{Plan, tasks, edges, source, target, reading_of, tasks as tasks_of, edges as edges_of}
 use Rattle.model.specs.Graph.{list_order, left_over, plan_of}
 use Rattle.model.specs.declared.Fault.TheVariants.{Cyclic}
 use Rattle.model.specs.declared.Side.TheVariants.{OfPlan}
 use Rattle.model.specs.declared.Refusal.{Refusal}
-use Rattle.model.specs.declared.Check.{Check}
-use Rattle.model.specs.declared.Step.{Step}
-use Rattle.model.specs.declared.Check.TheVariants.{Good, Bad}
 use Rattle.model.proofs.Refusals.{or_good, not_refused}
 use Rattle.model.proofs.Graph.{order_length}
 use Rattle.model.proofs.Plan.{Read, plan_valid}
@@ -30,6 +25,7 @@ use Rattle.plan.specs.declared.Columns.{Columns}
 use Rattle.plan.specs.declared.PlanRead.{PlanRead}
 use Rattle.plan.proofs.Fields.{filled_front, filled_length}
 use Rattle.plan.proofs.Waiting.{order_graph, left_graph}
+use Rattle.std.specs.Prelude.{Ok, Err}
 
 -- the entries at a column's front
 pub filled_at : (front l : List ℕ) (i : ℕ) → length front ≤ length l → i < length front → at (filled front l) i ≡ at front i
@@ -90,8 +86,8 @@ module _ (bytes : List ℕ) (parsed : Parsed) (costs sources targets amounts : L
       }
 
   -- a field was refused
-  pub fields_bad : {r : Refusal} → parsed.check ≡ Bad r → (record {
-    check = Bad r;
+  pub fields_bad : {r : Refusal} → parsed.check ≡ Err r → (record {
+    check = Err r;
     columns =
         record {
           bus = parsed.shape.bus;
@@ -106,11 +102,11 @@ module _ (bytes : List ℕ) (parsed : Parsed) (costs sources targets amounts : L
   }) ≡ plan_read bytes
   unfolding plan_check
   fields_bad {r} b =
-      let q : (reading_of bytes).check ≡ Bad r = sym checked ∙ b in
-      whole (Bad r) (replicate 64 0) (rw q) (rw q)
+      let q : (reading_of bytes).check ≡ Err r = sym checked ∙ b in
+      whole (Err r) (replicate 64 0) (rw q) (rw q)
 
-  module _ (g : parsed.check ≡ Good) where
-    good : (reading_of bytes).check ≡ Good
+  module _ (g : parsed.check ≡ (Ok tt)) where
+    good : (reading_of bytes).check ≡ Ok tt
     good = sym checked ∙ g
 
     facts : Read bytes p
@@ -198,8 +194,8 @@ long : (front : List ℕ) (n : ℕ) → n ≡ length (filled front (replicate n 
 long front n = sym (filled_length front (replicate n 0) ∙ zeros n)
 
 ordered_long : (p : Plan) (c : Check) → 64 ≡ length (order_by p c)
-ordered_long p Good = long (list_order p) 64
-ordered_long p (Bad r) = sym (zeros 64)
+ordered_long p (Ok tt) = long (list_order p) 64
+ordered_long p (Err r) = sym (zeros 64)
 
 pub read_sized : (bytes : List ℕ) (r : PlanRead) → r ≡ plan_read bytes → Sized r.columns
 unfolding plan_read columns_of
@@ -214,13 +210,13 @@ read_sized bytes r e =
     })
 
 -- the plan was refused
-pub plan_refused : (bytes : List ℕ) (r : PlanRead) {q : Refusal} → r ≡ plan_read bytes → r.check ≡ Bad q → plan_of bytes ≡ refuses q
+pub plan_refused : (bytes : List ℕ) (r : PlanRead) {q : Refusal} → r ≡ plan_read bytes → r.check ≡ Err q → plan_of bytes ≡ Err q
 unfolding plan_read plan_check plan_of
 plan_refused bytes r e b = rw (sym (ap (λ (x : PlanRead). x.check) e) ∙ b)
 
 -- the plan that bytes are, and its columns
 pub record Known (bytes : List ℕ) (c : Columns) (p : Plan) : Type 0 where
-  pub is : plan_of bytes ≡ gives p
+  pub is : plan_of bytes ≡ Ok p
   pub read : Read bytes p
   pub full : left_over p ≡ false
   pub bus : c.bus ≡ p.bus
@@ -232,7 +228,7 @@ pub record Known (bytes : List ℕ) (c : Columns) (p : Plan) : Type 0 where
   pub targets : take c.edges c.targets ≡ p.targets
   pub amounts : take c.edges c.amounts ≡ p.amounts
 
-known : (bytes : List ℕ) → plan_check bytes ≡ Good → Known bytes (plan_read bytes).columns (reading_of bytes).plan
+known : (bytes : List ℕ) → plan_check bytes ≡ Ok tt → Known bytes (plan_read bytes).columns (reading_of bytes).plan
 unfolding plan_read plan_check plan_of columns_of
 known bytes g =
     let b = or_good (reading_of bytes).check _ g in
@@ -255,7 +251,7 @@ known bytes g =
       amounts = filled_take p.amounts (replicate 256 0) (edges_of p) (sym v.amounts_all) (omega (arith, v.few_edges, v.amounts_all, zeros 256));
     }
 
-pub plan_known : (bytes : List ℕ) (r : PlanRead) → r ≡ plan_read bytes → r.check ≡ Good → Known bytes r.columns (reading_of bytes).plan
+pub plan_known : (bytes : List ℕ) (r : PlanRead) → r ≡ plan_read bytes → r.check ≡ Ok tt → Known bytes r.columns (reading_of bytes).plan
 unfolding plan_read
 plan_known bytes r e g =
     subst (λ (x : PlanRead). Known bytes x.columns (reading_of bytes).plan) (sym e)
@@ -269,7 +265,7 @@ pub record Fronts (c : Columns) : Type 0 where
   pub targets : c.edges ≤ length c.targets
   pub amounts : c.edges ≤ length c.amounts
 
-pub plan_fronts : (bytes : List ℕ) (r : PlanRead) → r ≡ plan_read bytes → r.check ≡ Good → Fronts r.columns
+pub plan_fronts : (bytes : List ℕ) (r : PlanRead) → r ≡ plan_read bytes → r.check ≡ Ok tt → Fronts r.columns
 plan_fronts bytes r e g =
     let s = read_sized bytes r e in
     let k = plan_known bytes r e g in

@@ -1,16 +1,14 @@
 -- What the plan reader gives: the refusal, if there is one, and the columns of the plan; of a plan that is refused at a field,
 -- what was read before it.
 -- Assumes nothing.
-use Rattle.std.specs.Prelude.{◌≡◌, ℕ, ◌+◌, true, List, length, replicate}
+use Rattle.std.specs.Prelude.{◌≡◌, ℕ, ◌+◌, true, List, length, replicate, Ok, Err}
 use Rattle.std.proofs.lemmas.List.Edits.{sets}
-use Rattle.model.specs.Refusals.{refusal, refuse_if, or_else}
+use Rattle.model.specs.Refusals.{refusal, refuse_if, or_else, Check}
 use Rattle.model.specs.Plan.{Plan, Reading, tasks, edges, key_of, reading_of}
 use Rattle.model.specs.Graph.{left_over, list_order}
 use Rattle.model.specs.declared.Fault.TheVariants.{Cyclic}
 use Rattle.model.specs.declared.Side.TheVariants.{OfPlan}
 use Rattle.model.specs.declared.Seen.{Seen}
-use Rattle.model.specs.declared.Check.{Check}
-use Rattle.model.specs.declared.Check.TheVariants.{Good, Bad}
 use Rattle.plan.specs.declared.Shape.{Shape}
 use Rattle.plan.specs.declared.Parsed.{Parsed}
 use Rattle.plan.specs.declared.Columns.{Columns}
@@ -28,8 +26,8 @@ filled front old = sets old 0 front
 
 -- the list order, once the fields are good
 abbrev pub order_by : Plan → Check → List ℕ
-order_by p Good = filled (list_order p) (replicate 64 0)
-order_by p (Bad r) = replicate 64 0
+order_by p (Ok tt) = filled (list_order p) (replicate 64 0)
+order_by p (Err r) = replicate 64 0
 
 -- the columns of a plan
 unfoldable pub columns_of : Plan → List ℕ → Columns

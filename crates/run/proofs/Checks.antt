@@ -7,15 +7,14 @@ use lib.ListN.{length}
 use lib.Dec.{ltb}
 use borrow.Author.Tests.{eq-eqb, ne_eqb, le-leb, lt-leb}
 use Rattle.model.specs.Below.{first_below}
-use Rattle.model.specs.Refusals.{refusal, refuse_if}
+use Rattle.model.specs.Refusals.{refusal, refuse_if, Check}
 use Rattle.model.specs.declared.Fault.TheVariants.{OutputShort, ServedUnknown, WordsWrong}
 use Rattle.model.specs.declared.Side.TheVariants.{OfNeither}
 use Rattle.model.specs.declared.Refusal.{Refusal}
-use Rattle.model.specs.declared.Check.{Check}
-use Rattle.model.specs.declared.Check.TheVariants.{Good, Bad}
 use Rattle.run.specs.Checks.{over_at, words_by, run_by}
+use Rattle.std.specs.Prelude.{Ok, Err}
 
-pub refuse_yes : (b : Bool) (r : Refusal) → b ≡ true → Bad r ≡ refuse_if b r
+pub refuse_yes : (b : Bool) (r : Refusal) → b ≡ true → Err r ≡ refuse_if b r
 refuse_yes true r e = refl
 refuse_yes false r e = cc
 
@@ -35,11 +34,11 @@ module _ (cores served : ℕ) (most words : List ℕ) (room : ℕ) where
   unfolding run_by
   served_bad x k q = q ∙ rw (le-leb cores served k)
 
-  pub words_bad : (x : Check) {r : Refusal} → served < cores → x ≡ words_by most words → x ≡ Bad r → Bad r ≡ run_by cores served most words room
+  pub words_bad : (x : Check) {r : Refusal} → served < cores → x ≡ words_by most words → x ≡ Err r → Err r ≡ run_by cores served most words room
   unfolding run_by
   words_bad x k q b = rw (lt-leb cores served k, ← q, b)
 
-  pub room_bad : (x y : Check) → served < cores → x ≡ words_by most words → x ≡ Good
+  pub room_bad : (x y : Check) → served < cores → x ≡ words_by most words → x ≡ Ok tt
       → y ≡ refuse_if (ltb room (2 * length most)) (refusal OutputShort OfNeither 0) → y ≡ run_by cores served most words room
   unfolding run_by
   room_bad x y k q g e = e ∙ rw (lt-leb cores served k, ← q, g)

@@ -11,9 +11,6 @@ use Rattle.model.specs.BusRule.{answers}
 use Rattle.model.specs.Answers.{judged}
 use Rattle.model.specs.declared.Bus.{Bus}
 use Rattle.model.specs.declared.Refusal.{Refusal}
-use Rattle.model.specs.declared.Check.{Check}
-use Rattle.model.specs.declared.Check.TheVariants.{Good, Bad}
-use Rattle.model.specs.declared.Played.{Played}
 use Rattle.model.proofs.Below.{list_length}
 use Rattle.model.proofs.Contention.{phase_words_length}
 use Rattle.contention.specs.Columns.{phases_by}
@@ -21,6 +18,8 @@ use Rattle.verifier.specs.Judging.{column_of, phase_cores, phase_starts, phase_e
 use Rattle.bus.specs.Playing.{Playable}
 use Rattle.run.specs.Checks.{run_by}
 use Rattle.run.proofs.Ways.{Obeyed, Ruled, ruled_is, front_room, front_cores, front_starts, front_ends, front_loads, playable, Answered, unplayed, served_good, words_long, words_within, room_good, played}
+use Rattle.std.specs.Prelude.{Ok, Err}
+use Rattle.model.specs.Refusals.{Check}
 
 module _ (p s : List ℕ) {bus : Bus} {n : ℕ} (o : Obeyed (judged p s) bus n) where
   rule : Ruled o.j
@@ -63,10 +62,10 @@ module _ (p s : List ℕ) {bus : Bus} {n : ℕ} (o : Obeyed (judged p s) bus n) 
         found : x ≡ run_by (cores o.j.plan) served (phase_loads o.j.plan (of_numbers o.j.table)) words (length out)
         found = rw (o.bus_is, at_loads) at q
 
-        pub unplayed_at : {r : Refusal} → x ≡ Bad r → Answered p s served words out (Played.Refused r) out
+        pub unplayed_at : {r : Refusal} → x ≡ Err r → Answered p s served words out (Err r) out
         unplayed_at = unplayed p s served words out o.j o.given x found
 
-        module _ (g : x ≡ Good) where
+        module _ (g : x ≡ (Ok tt)) where
           pub playable_at : Playable bus (take (2 * n) core) (take (2 * n) start) (take (2 * n) end) (take (2 * n) most) words served × (2 * length words ≤ length out)
           playable_at = (
             rw (o.bus_is, at_cores, at_starts, at_ends, at_loads)
@@ -83,6 +82,6 @@ module _ (p s : List ℕ) {bus : Bus} {n : ℕ} (o : Obeyed (judged p s) bus n) 
 
           pub played_at : (out' : List ℕ)
               → out' ≡ answers bus (phases_by (take (2 * n) core) (take (2 * n) start) (take (2 * n) end) (take (2 * n) most) (length words)) (record { served = served; actual = at words }) ++ drop (2 * length words) out
-              → Answered p s served words out Played.Finished out'
+              → Answered p s served words out (Ok tt) out'
           played_at out' e =
               played p s served words out o.j o.given x found g rule out' (rw (o.bus_is, at_cores, at_starts, at_ends, at_loads) at e)

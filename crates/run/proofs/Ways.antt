@@ -9,7 +9,7 @@ use lib.Seq.{take-append_seam}
 use lib.Dec.{ltb, leb, eqb}
 use borrow.Author.Tests.{ltb-false, leb-false, eqb-true}
 use Rattle.model.specs.Below.{at, first_below}
-use Rattle.model.specs.Refusals.{refusal, Outcome, gives, refuses, or_else, refuse_if}
+use Rattle.model.specs.Refusals.{refusal, Outcome, or_else, refuse_if, Check}
 use Rattle.model.specs.Plan.{Plan, Valid, tasks, cores}
 use Rattle.model.specs.Graph.{plan_of}
 use Rattle.model.specs.Table.{Table, of_numbers, table_of}
@@ -21,9 +21,6 @@ use Rattle.model.specs.declared.Bus.{Bus}
 use Rattle.model.specs.declared.Fault.TheVariants.{WordsWrong}
 use Rattle.model.specs.declared.Side.TheVariants.{OfNeither}
 use Rattle.model.specs.declared.Refusal.{Refusal}
-use Rattle.model.specs.declared.Check.{Check}
-use Rattle.model.specs.declared.Check.TheVariants.{Good, Bad}
-use Rattle.model.specs.declared.Played.{Played}
 use Rattle.model.specs.declared.Time.{Time}
 use Rattle.model.proofs.Below.{list_length, list_at, first}
 use Rattle.model.proofs.Refusals.{or_good, not_refused, passed, and_then_lem}
@@ -42,21 +39,22 @@ use Rattle.verifier.specs.Judging.{judgement_by, judgement_of, column_of, phase_
 use Rattle.verifier.specs.declared.Judgement.{Judgement}
 use Rattle.bus.specs.Playing.{Playable}
 use Rattle.run.specs.Checks.{over_at, words_by, run_by}
+use Rattle.std.specs.Prelude.{Ok, Err}
 
 -- ---- what the judgement says of the bytes
-refused_by_lem : (o : Outcome Judged) {r : Refusal} → judgement_by o ≡ Judgement.Refused r → o ≡ refuses r
-refused_by_lem (gives j) e = cc
-refused_by_lem (refuses r) e = cc
+refused_by_lem : (o : Outcome Judged) {r : Refusal} → judgement_by o ≡ Judgement.Refused r → o ≡ Err r
+refused_by_lem (Ok j) e = cc
+refused_by_lem (Err r) e = cc
 
 pub record Obeyed (o : Outcome Judged) (bus : Bus) (n : ℕ) : Type 0 where
   pub j : Judged
-  pub given : o ≡ gives j
+  pub given : o ≡ Ok j
   pub bus_is : bus ≡ j.plan.bus
   pub tasks_is : n ≡ tasks j.plan
 
 obeyed_by : (o : Outcome Judged) {bus : Bus} {n : ℕ} {m : Time} → judgement_by o ≡ Judgement.Obeys bus n m → Obeyed o bus n
-obeyed_by (gives j) e = record { j = j; given = refl; bus_is = cc; tasks_is = cc }
-obeyed_by (refuses r) e = let z : ◌≡◌ {A = ℕ} 0 1 = cc in absurd (omega arith)
+obeyed_by (Ok j) e = record { j = j; given = refl; bus_is = cc; tasks_is = cc }
+obeyed_by (Err r) e = let z : ◌≡◌ {A = ℕ} 0 1 = cc in absurd (omega arith)
 
 pub obeyed : (p s : List ℕ) (k : Judgement) {bus : Bus} {n : ℕ} {m : Time} → k ≡ judgement_of p s → k ≡ Judgement.Obeys bus n m → Obeyed (judged p s) bus n
 unfolding judgement_of
@@ -68,7 +66,7 @@ pub record Ruled (j : Judged) : Type 0 where
   pub range : InRange j.plan (of_numbers j.table) (tasks j.plan)
   pub accepts : Accepted j.plan.bus (phases_of j.plan (of_numbers j.table)) (by_rivals j.plan.bus (phases_of j.plan (of_numbers j.table)))
 
-pub ruled_is : (p s : List ℕ) (j : Judged) → judged p s ≡ gives j → Ruled j
+pub ruled_is : (p s : List ℕ) (j : Judged) → judged p s ≡ Ok j → Ruled j
 unfolding judged
 ruled_is p s j e =
     and_then_lem (plan_of p) _ e (λ plan ep e2.
@@ -84,7 +82,7 @@ ruled_is p s j e =
     })))
 
 -- ---- the columns that judging leaves hold the table's phases in front
-module _ (p s : List ℕ) (j : Judged) (e : judged p s ≡ gives j) where
+module _ (p s : List ℕ) (j : Judged) (e : judged p s ≡ Ok j) where
   column_is : (f : Plan → Table → List ℕ) (old : List ℕ) → column_of f p s old ≡ f j.plan (of_numbers j.table) ++ drop (length (f j.plan (of_numbers j.table))) old
   unfolding column_of judged
   column_is f old =
@@ -179,14 +177,14 @@ unfolding answers
 answers_length b h u = blocks_length (λ x. finish b h u (run b h u) x ∷ waits b h u (run b h u) x ∷ []) 2 (λ x. refl) h.count
 
 module _ (p s : List ℕ) (served : ℕ) (words out : List ℕ) where
-  abbrev pub Answered : Played → List ℕ → Type 0
+  abbrev pub Answered : Check → List ℕ → Type 0
   Answered r out' = (r ≡ played_of p s served words out) × (out' ≡ played_output p s served words out)
 
-  pub unjudged : (k : Judgement) {r : Refusal} → k ≡ judgement_of p s → k ≡ Judgement.Refused r → Answered (Played.Refused r) out
+  pub unjudged : (k : Judgement) {r : Refusal} → k ≡ judgement_of p s → k ≡ Judgement.Refused r → Answered (Err r) out
   unfolding judgement_of played_of played_output playing
   unjudged k e q = let o = refused_by_lem (judged p s) (sym e ∙ q) in (rw o, rw o)
 
-  module _ (j : Judged) (e : judged p s ≡ gives j) where
+  module _ (j : Judged) (e : judged p s ≡ Ok j) where
     abbrev most : List ℕ
     most = phase_loads j.plan (of_numbers j.table)
 
@@ -201,19 +199,19 @@ module _ (p s : List ℕ) (served : ℕ) (words out : List ℕ) where
     check_is = let k : 2 * (2 * tasks j.plan) ≡ 4 * tasks j.plan = omega arith in rw (most_long, k)
 
     module _ (x : Check) (q : x ≡ run_by (cores j.plan) served most words (length out)) where
-      pub unplayed : {r : Refusal} → x ≡ Bad r → Answered (Played.Refused r) out
+      pub unplayed : {r : Refusal} → x ≡ Err r → Answered (Err r) out
       unfolding played_of played_output playing
-      unplayed {r} b = let c : check ≡ Bad r = sym (q ∙ check_is) ∙ b in (rw (e, c), rw (e, c))
+      unplayed {r} b = let c : check ≡ Err r = sym (q ∙ check_is) ∙ b in (rw (e, c), rw (e, c))
 
-      module _ (g : x ≡ Good) where
-        passes : check ≡ Good
+      module _ (g : x ≡ (Ok tt)) where
+        passes : check ≡ Ok tt
         passes = sym (q ∙ check_is) ∙ g
 
         pub served_good : served < cores j.plan
         unfolding served_check
         served_good = leb-false (cores j.plan) served (not_refused (leb (cores j.plan) served) _ (or_good (served_check j served) _ passes).0)
 
-        behind : (words_check j words ≡ Good) × (room (4 * tasks j.plan) out ≡ Good)
+        behind : (words_check j words ≡ (Ok tt)) × (room (4 * tasks j.plan) out ≡ (Ok tt))
         behind = or_good (words_check j words) (room (4 * tasks j.plan) out) (or_good (served_check j served) _ passes).1
 
         abbrev n : ℕ
@@ -249,7 +247,7 @@ module _ (p s : List ℕ) (served : ℕ) (words out : List ℕ) where
 
         pub played : (r : Ruled j) (out' : List ℕ)
             → out' ≡ answers j.plan.bus (phases_by (phase_cores j.plan (of_numbers j.table)) (phase_starts j.plan (of_numbers j.table)) (phase_ends j.plan (of_numbers j.table)) most (length words)) (record { served = served; actual = at words }) ++ drop (2 * length words) out
-            → Answered Played.Finished out'
+            → Answered (Ok tt) out'
         unfolding played_of played_output playing
         played r out' eo =
             let b = j.plan.bus in

@@ -2,10 +2,9 @@
 -- Assumes nothing.
 use Rattle.std.specs.Prelude.{ℕ, ◌*◌, Bool, not, List, length, ltb, leb, eqb}
 use Rattle.model.specs.Below.{at, first_below}
-use Rattle.model.specs.Refusals.{refusal, refuse_if, or_else}
+use Rattle.model.specs.Refusals.{refusal, refuse_if, or_else, Check}
 use Rattle.model.specs.declared.Fault.TheVariants.{OutputShort, ServedUnknown, WordsWrong}
 use Rattle.model.specs.declared.Side.TheVariants.{OfNeither}
-use Rattle.model.specs.declared.Check.{Check}
 
 -- phase x asks for more words than are declared for it
 unfoldable pub over_at : List ℕ → List ℕ → ℕ → Bool

@@ -1,9 +1,8 @@
 -- Demand 3 for the numbers that the run writes: what they are, and what they keep to. The theorem: proofs/Obeying.antt,
 -- `run_obeys`. Assumes nothing.
-use Rattle.std.specs.Prelude.{ℕ, ◌+◌, ◌*◌, ◌≤◌, ◌<◌, ◌≡◌, List}
+use Rattle.std.specs.Prelude.{ℕ, ◌+◌, ◌*◌, ◌≤◌, ◌<◌, ◌≡◌, List, Ok}
 use Rattle.model.specs.Below.{at}
 use Rattle.model.specs.Counts.{slots}
-use Rattle.model.specs.Refusals.{gives}
 use Rattle.model.specs.Plan.{tasks}
 use Rattle.model.specs.Table.{of_numbers}
 use Rattle.model.specs.Contention.{phases_of, rivals}
@@ -15,7 +14,7 @@ use Rattle.guarantee.specs.Kept.{Guaranteed}
 -- and the waits of the bus rule's run
 pub record Obeys (p s : List ℕ) (u : Use) (list : List ℕ) : Type 0 where
   pub j : Judged
-  pub accepted : judged p s ≡ gives j
+  pub accepted : judged p s ≡ Ok j
   pub ends :
       (x : ℕ) → x < 2 * tasks j.plan
       → at list (2 * x) ≡ finish j.plan.bus (phases_of j.plan (of_numbers j.table)) u (run j.plan.bus (phases_of j.plan (of_numbers j.table)) u) x

@@ -6,37 +6,34 @@ use native.Mathlib.Omega.{arith}
 use lib.ListN.{length}
 use borrow.Author.Tests.{le-leb, lt-leb, lt-ltb, le-ltb}
 use Rattle.model.specs.Below.{at}
-use Rattle.model.specs.Field.{four, table_step}
-use Rattle.model.specs.Refusals.{refusal, first_bad}
+use Rattle.model.specs.Field.{four, table_step, Step}
+use Rattle.model.specs.Refusals.{refusal, first_bad, Check}
 use Rattle.model.specs.Table.{of_bytes, non_falling, values_of, values_at, row_by, row_at, rows_check}
 use Rattle.model.specs.declared.Fault.TheVariants.{CoreUnknown, MarksFalling, FieldCount}
 use Rattle.model.specs.declared.Side.TheVariants.{OfTable}
-use Rattle.model.specs.declared.Check.{Check}
-use Rattle.model.specs.declared.Check.TheVariants.{Good, Bad}
 use Rattle.model.specs.declared.Refusal.{Refusal}
-use Rattle.model.specs.declared.Step.{Step}
-use Rattle.model.specs.declared.Step.TheVariants.{Field}
-use Rattle.model.proofs.Field.{whole, row_body}
+use Rattle.model.proofs.FieldLaws.{whole, row_body}
+use Rattle.std.specs.Prelude.{Ok, Err}
 
 module _ (cs place core r e w f : ℕ) where
-  pub core_unknown : cs ≤ core → Bad (refusal CoreUnknown OfTable place) ≡ values_of cs place core r e w f
+  pub core_unknown : cs ≤ core → Err (refusal CoreUnknown OfTable place) ≡ values_of cs place core r e w f
   unfolding values_of
   core_unknown h = rw (le-leb cs core h)
 
   module _ (h : core < cs) where
-    pub read_falls : e < r → Bad (refusal MarksFalling OfTable place) ≡ values_of cs place core r e w f
+    pub read_falls : e < r → Err (refusal MarksFalling OfTable place) ≡ values_of cs place core r e w f
     unfolding values_of non_falling
     read_falls a = rw (lt-leb cs core h, lt-leb r e a)
 
-    pub execute_falls : r ≤ e → w < e → Bad (refusal MarksFalling OfTable place) ≡ values_of cs place core r e w f
+    pub execute_falls : r ≤ e → w < e → Err (refusal MarksFalling OfTable place) ≡ values_of cs place core r e w f
     unfolding values_of non_falling
     execute_falls a b = rw (lt-leb cs core h, le-leb r e a, lt-leb e w b)
 
-    pub write_falls : r ≤ e → e ≤ w → f < w → Bad (refusal MarksFalling OfTable place) ≡ values_of cs place core r e w f
+    pub write_falls : r ≤ e → e ≤ w → f < w → Err (refusal MarksFalling OfTable place) ≡ values_of cs place core r e w f
     unfolding values_of non_falling
     write_falls a b c = rw (lt-leb cs core h, le-leb r e a, le-leb e w b, lt-leb w f c)
 
-    pub none_falls : r ≤ e → e ≤ w → w ≤ f → Good ≡ values_of cs place core r e w f
+    pub none_falls : r ≤ e → e ≤ w → w ≤ f → (Ok tt) ≡ values_of cs place core r e w f
     unfolding values_of non_falling
     none_falls a b c = rw (lt-leb cs core h, le-leb r e a, le-leb e w b, le-leb w f c)
 
@@ -57,15 +54,15 @@ row_whole i s y {tag} e q =
 
 -- ---- all fields
 module _ (cs n : ℕ) (s : List ℕ) (x : Check) (e : x ≡ first_bad (row_at cs s) n) where
-  pub rows_bad : {r : Refusal} → x ≡ Bad r → Bad r ≡ rows_check cs n s
+  pub rows_bad : {r : Refusal} → x ≡ Err r → Err r ≡ rows_check cs n s
   unfolding rows_check
   rows_bad b = rw (← e, b)
 
-  pub rows_over : x ≡ Good → 20 * n < length s → Bad (refusal FieldCount OfTable (20 * n)) ≡ rows_check cs n s
+  pub rows_over : x ≡ Ok tt → 20 * n < length s → Err (refusal FieldCount OfTable (20 * n)) ≡ rows_check cs n s
   unfolding rows_check
   rows_over g h = rw (← e, g, lt-ltb (20 * n) (length s) h)
 
-  pub rows_whole : x ≡ Good → length s ≤ 20 * n → Good ≡ rows_check cs n s
+  pub rows_whole : x ≡ Ok tt → length s ≤ 20 * n → (Ok tt) ≡ rows_check cs n s
   unfolding rows_check
   rows_whole g h = rw (← e, g, le-ltb (20 * n) (length s) h)
 

@@ -8,23 +8,22 @@ use lib.Dec.{ltb, eqb}
 use lib.ListN.{length, drop}
 use borrow.Author.Tests.{lt-ltb}
 use Rattle.model.specs.Below.{at, list_below}
-use Rattle.model.specs.Refusals.{refusal, refuse_if, or_else, first_bad}
+use Rattle.model.specs.Refusals.{refusal, refuse_if, or_else, first_bad, Check}
 use Rattle.model.specs.Table.{Table}
 use Rattle.model.specs.Rules.{delay_at, execute_at, edge_at, crossing, cross_at, window_at}
 use Rattle.model.specs.declared.Bus.{Bus}
 use Rattle.model.specs.declared.Fault.{Fault}
 use Rattle.model.specs.declared.Fault.TheVariants.{ExecuteShort, ReadEarly, SpansCross, WindowShort}
 use Rattle.model.specs.declared.Side.TheVariants.{OfTable}
-use Rattle.model.specs.declared.Check.{Check}
-use Rattle.model.specs.declared.Check.TheVariants.{Good, Bad}
 use Rattle.contention.specs.Columns.{phases_by}
 use Rattle.contention.proofs.Columns.{is_column}
 use Rattle.model.proofs.Below.{join_cong}
 use Rattle.model.proofs.Refusals.{first_all}
 use Rattle.model.proofs.Rules.{apart_good}
 use Rattle.verifier.specs.Columns.{tasks_by, edges_of, lasts_at}
+use Rattle.std.specs.Prelude.{Ok, Err}
 
-pub refuse_yes : (b : Bool) (fault : Fault) (i : ℕ) → b ≡ true → Bad (record { fault = fault; side = OfTable; place = 20 * i }) ≡ refuse_if b (record { fault = fault; side = OfTable; place = 20 * i })
+pub refuse_yes : (b : Bool) (fault : Fault) (i : ℕ) → b ≡ true → Err (record { fault = fault; side = OfTable; place = 20 * i }) ≡ refuse_if b (record { fault = fault; side = OfTable; place = 20 * i })
 refuse_yes true fault i e = refl
 refuse_yes false fault i e = cc
 
@@ -52,7 +51,7 @@ unfolding cross_at
 pair_is t i j core r f x l a b c q = rw (lt-ltb i j l) (rw (a, b, c) at q)
 
 -- there are none up to task i itself
-pub pairs_none : (t : Table) (i : ℕ) → first_bad (cross_at t i) (i + 1) ≡ Good
+pub pairs_none : (t : Table) (i : ℕ) → first_bad (cross_at t i) (i + 1) ≡ Ok tt
 pairs_none t i = first_all (cross_at t i) (i + 1) (λ j l. apart_good t i j (λ k. absurd (omega arith)))
 
 pub lasts_is : (start end delays : List ℕ) (x s e d : ℕ) (c : Check) → s ≡ at start x → e ≡ at end x → d ≡ at delays x
@@ -67,4 +66,4 @@ pub lasts_each : (b : Bus) (core start end words delays rest : List ℕ) (n : �
 unfolding lasts_at window_at
 lasts_each b core start end words delays rest n l e =
     let due = is_column (delay_at b (phases_by core start end words n)) n rest l delays e in
-    join_cong or_else Good _ _ n (λ x k. rw (due.each x k))
+    join_cong or_else (Ok tt) _ _ n (λ x k. rw (due.each x k))

@@ -5,7 +5,7 @@ use Prim.Native.Nat.{ℕ, ◌*◌, ◌≤◌}
 use native.Mathlib.Omega.{arith}
 use lib.ListN.{length, take, drop, length-append}
 use lib.Seq.{take-append_seam}
-use Rattle.model.specs.Refusals.{Outcome, gives, refuses, passing}
+use Rattle.model.specs.Refusals.{Outcome, passing, Check}
 use Rattle.model.specs.Plan.{Plan, tasks, cores}
 use Rattle.model.specs.Graph.{plan_of}
 use Rattle.model.specs.Table.{Table, of_numbers, of_bytes, numbers_at, numbers, rows_check, table_of}
@@ -13,9 +13,6 @@ use Rattle.model.specs.Contention.{phase_words}
 use Rattle.model.specs.Rules.{rules_check}
 use Rattle.model.specs.Answers.{Judged, judged, verdict_by, verdict_of}
 use Rattle.model.specs.declared.Refusal.{Refusal}
-use Rattle.model.specs.declared.Check.{Check}
-use Rattle.model.specs.declared.Check.TheVariants.{Good, Bad}
-use Rattle.model.specs.declared.Verdict.{Verdict}
 use Rattle.model.proofs.Below.{list_length}
 use Rattle.model.proofs.Contention.{phase_words_length}
 use Rattle.model.proofs.RoundTrip.{blocks_length}
@@ -23,6 +20,8 @@ use Rattle.table.proofs.Rows.{numbers_long}
 use Rattle.contention.specs.Columns.{core_column, start_column, end_column}
 use Rattle.verifier.specs.Judging.{ruled_by, ruled, judgement_by, judgement_of, column_of, phase_cores, phase_starts, phase_ends, phase_loads}
 use Rattle.verifier.specs.declared.Judgement.{Judgement}
+use Rattle.std.specs.Prelude.{Ok, Err}
+use Rattle.model.specs.declared.Time.{Time}
 
 -- the four columns after judging, from what they were
 abbrev pub Phased : List ℕ → List ℕ → (core start end words core' start' end' words' : List ℕ) → Type 0
@@ -31,19 +30,19 @@ Phased plan s core start end words core' start' end' words' =
     × (end' ≡ column_of phase_ends plan s end) × (words' ≡ column_of phase_loads plan s words)
 
 module _ (plan s core start end words : List ℕ) where
-  pub unplanned : {r : Refusal} → plan_of plan ≡ refuses r → (Judgement.Refused r ≡ judgement_of plan s) × Phased plan s core start end words core start end words
+  pub unplanned : {r : Refusal} → plan_of plan ≡ Err r → (Judgement.Refused r ≡ judgement_of plan s) × Phased plan s core start end words core start end words
   unfolding judgement_of judged column_of
   unplanned e = (rw e, (rw e, rw e, rw e, rw e))
 
-  module _ (p : Plan) (e : plan_of plan ≡ gives p) (cs n : ℕ) (ec : cs ≡ cores p) (en : n ≡ tasks p) (x : Check) (ex : x ≡ rows_check cs n s) where
-    pub unread : {r : Refusal} → x ≡ Bad r → (Judgement.Refused r ≡ judgement_of plan s) × Phased plan s core start end words core start end words
+  module _ (p : Plan) (e : plan_of plan ≡ Ok p) (cs n : ℕ) (ec : cs ≡ cores p) (en : n ≡ tasks p) (x : Check) (ex : x ≡ rows_check cs n s) where
+    pub unread : {r : Refusal} → x ≡ Err r → (Judgement.Refused r ≡ judgement_of plan s) × Phased plan s core start end words core start end words
     unfolding judgement_of judged column_of table_of
     unread {r} b =
-        let q : rows_check (cores p) (tasks p) s ≡ Bad r = rw (← ec, ← en) (sym ex ∙ b) in
+        let q : rows_check (cores p) (tasks p) s ≡ Err r = rw (← ec, ← en) (sym ex ∙ b) in
         (rw (e, q), (rw (e, q), rw (e, q), rw (e, q), rw (e, q)))
 
-    module _ (g : x ≡ Good) where
-      good : rows_check (cores p) (tasks p) s ≡ Good
+    module _ (g : x ≡ (Ok tt)) where
+      good : rows_check (cores p) (tasks p) s ≡ Ok tt
       good = rw (← ec, ← en) (sym ex ∙ g)
 
       abbrev v : List ℕ
@@ -69,8 +68,8 @@ module _ (plan s core start end words : List ℕ) where
       judged_all r q = q ∙ rw (e, good) (by (rules_check p (of_numbers v)))
         where
           by : (c : Check) → ruled_by p (of_numbers v) c ≡ judgement_by (passing c (record { plan = p; table = v }))
-          by Good = refl
-          by (Bad r) = refl
+          by (Ok tt) = refl
+          by (Err r) = refl
 
       column_all : (f : Plan → Table → List ℕ) (out out' : List ℕ) → length (f p (of_numbers v)) ≡ 2 * tasks p → out' ≡ f p (of_numbers v) ++ drop (2 * tasks p) out → out' ≡ column_of f plan s out
       unfolding column_of table_of
@@ -92,13 +91,13 @@ module _ (plan s core start end words : List ℕ) where
       )
 
 -- ---- from a judgement to a verdict
-abbrev verdict : Judgement → Verdict
-verdict (Judgement.Obeys bus n m) = Verdict.Accepted m
-verdict (Judgement.Refused r) = Verdict.Refused r
+abbrev verdict : Judgement → Outcome Time
+verdict (Judgement.Obeys bus n m) = Ok m
+verdict (Judgement.Refused r) = Err r
 
 verdict_by_lem : (o : Outcome Judged) → verdict (judgement_by o) ≡ verdict_by o
-verdict_by_lem (gives j) = refl
-verdict_by_lem (refuses r) = refl
+verdict_by_lem (Ok j) = refl
+verdict_by_lem (Err r) = refl
 
 pub verdict_is : (plan s : List ℕ) (j k : Judgement) → j ≡ judgement_of plan s → j ≡ k → verdict k ≡ verdict_of plan s
 unfolding judgement_of verdict_of

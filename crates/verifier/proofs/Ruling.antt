@@ -6,15 +6,13 @@ use native.Mathlib.Omega.{arith}
 use lib.ListN.{length, drop, length-replicate}
 use Rattle.model.specs.Below.{at, list_below}
 use Rattle.model.specs.Counts.{most_words}
-use Rattle.model.specs.Refusals.{or_else, first_bad}
+use Rattle.model.specs.Refusals.{or_else, first_bad, Check}
 use Rattle.model.specs.Plan.{Plan, Valid}
 use Rattle.model.specs.Table.{Table}
 use Rattle.model.specs.Contention.{moved, read_words, write_words, of_phase, phase_words, Phases, phases_of}
 use Rattle.model.specs.Rules.{delay_at, execute_at, edge_at, cross_at, cross_from, window_at, rules_check, makespan}
 use Rattle.model.specs.declared.Bus.{Bus}
 use Rattle.model.specs.declared.Refusal.{Refusal}
-use Rattle.model.specs.declared.Check.{Check}
-use Rattle.model.specs.declared.Check.TheVariants.{Good, Bad}
 use Rattle.model.proofs.Below.{join_cong}
 use Rattle.model.proofs.Contention.{Agree, rivals_same, phase_most, phase_words_at}
 use Rattle.contention.specs.Columns.{phases_by, core_column, start_column, end_column, Sized, edges_by, Edges}
@@ -22,6 +20,7 @@ use Rattle.contention.proofs.Columns.{is_column, fill_length}
 use Rattle.verifier.specs.Columns.{tasks_by, edges_of, shape_by, plan_by, Between}
 use Rattle.verifier.specs.Judging.{spans_check, ruled}
 use Rattle.verifier.specs.declared.Judgement.{Judgement}
+use Rattle.std.specs.Prelude.{Ok, Err}
 
 -- phases that agree are judged alike
 window_same : (b : Bus) (h g : Phases) → Agree h g → (x : ℕ) → x < h.count → window_at b h x ≡ window_at b g x
@@ -36,25 +35,25 @@ module _ (costs sources targets : List ℕ) (t : Table) where
   abbrev followed : Check
   followed = first_bad (edge_at (shape_by costs sources targets) t) (length sources)
 
-  pub spans_executes : (a : Check) {r : Refusal} → a ≡ first_bad (execute_at (tasks_by costs) t) (length costs) → a ≡ Bad r → Bad r ≡ spans_check (shape_by costs sources targets) t
+  pub spans_executes : (a : Check) {r : Refusal} → a ≡ first_bad (execute_at (tasks_by costs) t) (length costs) → a ≡ Err r → Err r ≡ spans_check (shape_by costs sources targets) t
   unfolding spans_check execute_at
-  spans_executes a {r} e b = let q : executed ≡ Bad r = sym e ∙ b in rw q
+  spans_executes a {r} e b = let q : executed ≡ Err r = sym e ∙ b in rw q
 
-  pub spans_edges : (a b : Check) {r : Refusal} → a ≡ first_bad (execute_at (tasks_by costs) t) (length costs) → a ≡ Good
-      → b ≡ first_bad (edge_at (edges_of sources targets) t) (length sources) → b ≡ Bad r → Bad r ≡ spans_check (shape_by costs sources targets) t
+  pub spans_edges : (a b : Check) {r : Refusal} → a ≡ first_bad (execute_at (tasks_by costs) t) (length costs) → a ≡ Ok tt
+      → b ≡ first_bad (edge_at (edges_of sources targets) t) (length sources) → b ≡ Err r → Err r ≡ spans_check (shape_by costs sources targets) t
   unfolding spans_check execute_at edge_at
   spans_edges a b {r} e g f h =
-      let q : executed ≡ Good = sym e ∙ g in
-      let w : followed ≡ Bad r = sym f ∙ h in
+      let q : executed ≡ (Ok tt) = sym e ∙ g in
+      let w : followed ≡ Err r = sym f ∙ h in
       rw (q, w)
 
-  pub spans_crosses : (a b c : Check) → a ≡ first_bad (execute_at (tasks_by costs) t) (length costs) → a ≡ Good
-      → b ≡ first_bad (edge_at (edges_of sources targets) t) (length sources) → b ≡ Good
+  pub spans_crosses : (a b c : Check) → a ≡ first_bad (execute_at (tasks_by costs) t) (length costs) → a ≡ Ok tt
+      → b ≡ first_bad (edge_at (edges_of sources targets) t) (length sources) → b ≡ Ok tt
       → c ≡ first_bad (λ i. first_bad (cross_at t i) (length costs)) (length costs) → c ≡ spans_check (shape_by costs sources targets) t
   unfolding spans_check execute_at edge_at
   spans_crosses a b c e g f h k =
-      let q : executed ≡ Good = sym e ∙ g in
-      let w : followed ≡ Good = sym f ∙ h in
+      let q : executed ≡ (Ok tt) = sym e ∙ g in
+      let w : followed ≡ (Ok tt) = sym f ∙ h in
       rw (q, w) k
 
 -- the marks that an edge needs are there
@@ -65,9 +64,9 @@ edge_marks n sources targets table few b h e l =
 
 -- ---- all rules, of a plan in columns
 or_assoc : (a b c d : Check) → or_else a (or_else b (or_else c d)) ≡ or_else (or_else a (or_else b c)) d
-or_assoc (Bad r) b c d = refl
-or_assoc Good (Bad r) c d = refl
-or_assoc Good Good c d = refl
+or_assoc (Err r) b c d = refl
+or_assoc (Ok tt) (Err r) c d = refl
+or_assoc (Ok tt) (Ok tt) c d = refl
 
 module _ (bus : Bus) (costs sources targets amounts : List ℕ) (v : Valid (plan_by bus costs sources targets amounts)) where
   abbrev p : Plan
@@ -108,7 +107,7 @@ module _ (bus : Bus) (costs sources targets amounts : List ℕ) (v : Valid (plan
     rules_split =
         or_assoc (first_bad (execute_at p t) n) (first_bad (edge_at p t) (length sources)) (first_bad (cross_from p t) n) lasting
 
-    pub rules_spans : (a : Check) {r : Refusal} → a ≡ spans_check (shape_by costs sources targets) t → a ≡ Bad r → Judgement.Refused r ≡ ruled p t
+    pub rules_spans : (a : Check) {r : Refusal} → a ≡ spans_check (shape_by costs sources targets) t → a ≡ Err r → Judgement.Refused r ≡ ruled p t
     unfolding ruled
     rules_spans a e b = rw (rules_split, sym e ∙ b)
 
@@ -157,13 +156,13 @@ module _ (bus : Bus) (costs sources targets amounts : List ℕ) (v : Valid (plan
           }
 
       windows_same : first_bad (window_at bus h) (2 * n) ≡ lasting
-      windows_same = join_cong or_else Good (window_at bus h) (window_at bus (phases_of p t)) (2 * n) (λ x l. window_same bus h (phases_of p t) agree x l)
+      windows_same = join_cong or_else (Ok tt) (window_at bus h) (window_at bus (phases_of p t)) (2 * n) (λ x l. window_same bus h (phases_of p t) agree x l)
 
-      module _ (a b : Check) (ea : a ≡ spans_check (shape_by costs sources targets) t) (ga : a ≡ Good) (eb : b ≡ first_bad (window_at bus h) (2 * n)) where
-        pub rules_windows : {r : Refusal} → b ≡ Bad r → Judgement.Refused r ≡ ruled p t
+      module _ (a b : Check) (ea : a ≡ spans_check (shape_by costs sources targets) t) (ga : a ≡ (Ok tt)) (eb : b ≡ first_bad (window_at bus h) (2 * n)) where
+        pub rules_windows : {r : Refusal} → b ≡ Err r → Judgement.Refused r ≡ ruled p t
         unfolding ruled
         rules_windows g = rw (rules_split, sym ea ∙ ga, sym windows_same ∙ sym eb ∙ g)
 
-        pub rules_good : (m : ℕ) → b ≡ Good → m ≡ makespan n t → Judgement.Obeys bus n (record { 0 = m }) ≡ ruled p t
+        pub rules_good : (m : ℕ) → b ≡ Ok tt → m ≡ makespan n t → Judgement.Obeys bus n (record { 0 = m }) ≡ ruled p t
         unfolding ruled
         rules_good m g q = rw (rules_split, sym ea ∙ ga, sym windows_same ∙ sym eb ∙ g, q)

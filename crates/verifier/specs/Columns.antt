@@ -2,11 +2,10 @@
 use Rattle.std.specs.Prelude.{◌≡◌, ℕ, ◌+◌, ◌*◌, ◌/◌, ◌<◌, List, length, ltb}
 use Rattle.model.specs.Below.{at}
 use Rattle.model.specs.Plan.{Plan, no_plan}
-use Rattle.model.specs.Refusals.{refusal, refuse_if}
+use Rattle.model.specs.Refusals.{refusal, refuse_if, Check}
 use Rattle.model.specs.declared.Bus.{Bus}
 use Rattle.model.specs.declared.Fault.TheVariants.{WindowShort}
 use Rattle.model.specs.declared.Side.TheVariants.{OfTable}
-use Rattle.model.specs.declared.Check.{Check}
 
 abbrev pub plan_by : Bus → List ℕ → List ℕ → List ℕ → List ℕ → Plan
 plan_by bus costs sources targets amounts =

@@ -1,14 +1,12 @@
 -- The judging of a plan's and a table's bytes, as far as the verifier and the bus run share it. Assumes nothing.
-use Rattle.std.specs.Prelude.{List, ℕ}
-use Rattle.model.specs.Refusals.{or_else, first_bad, Outcome, gives, refuses, and_then}
+use Rattle.std.specs.Prelude.{List, ℕ, Ok, Err}
+use Rattle.model.specs.Refusals.{or_else, first_bad, Outcome, and_then, Check}
 use Rattle.model.specs.Plan.{Plan, tasks, edges}
 use Rattle.model.specs.Graph.{plan_of}
 use Rattle.model.specs.Table.{Table, of_numbers, table_of}
 use Rattle.model.specs.Contention.{phase_words}
 use Rattle.model.specs.Rules.{execute_at, edge_at, cross_from, rules_check, makespan}
 use Rattle.model.specs.Answers.{onto, Judged, judged}
-use Rattle.model.specs.declared.Check.{Check}
-use Rattle.model.specs.declared.Check.TheVariants.{Good, Bad}
 use Rattle.contention.specs.Columns.{core_column, start_column, end_column}
 use Rattle.verifier.specs.declared.Judgement.{Judgement}
 
@@ -24,16 +22,16 @@ abbrev pub obeys : Plan → Table → Judgement
 obeys p t = Judgement.Obeys p.bus (tasks p) (record { 0 = makespan (tasks p) t })
 
 abbrev pub ruled_by : Plan → Table → Check → Judgement
-ruled_by p t Good = obeys p t
-ruled_by p t (Bad r) = Judgement.Refused r
+ruled_by p t (Ok tt) = obeys p t
+ruled_by p t (Err r) = Judgement.Refused r
 
 unfoldable pub ruled : Plan → Table → Judgement
 ruled p t = ruled_by p t (rules_check p t)
 
 -- the same from the bytes
 abbrev pub judgement_by : Outcome Judged → Judgement
-judgement_by (gives j) = obeys j.plan (of_numbers j.table)
-judgement_by (refuses r) = Judgement.Refused r
+judgement_by (Ok j) = obeys j.plan (of_numbers j.table)
+judgement_by (Err r) = Judgement.Refused r
 
 unfoldable pub judgement_of : List ℕ → List ℕ → Judgement
 judgement_of p s = judgement_by (judged p s)
@@ -52,4 +50,4 @@ abbrev pub phase_loads : Plan → Table → List ℕ
 phase_loads p t = phase_words p t.core
 
 unfoldable pub column_of : (Plan → Table → List ℕ) → List ℕ → List ℕ → List ℕ → List ℕ
-column_of f p s out = onto out (and_then (plan_of p) (λ plan. and_then (table_of plan s) (λ v. gives (f plan (of_numbers v)))))
+column_of f p s out = onto out (and_then (plan_of p) (λ plan. and_then (table_of plan s) (λ v. Ok (f plan (of_numbers v)))))

@@ -1,5 +1,5 @@
 -- `plan::body_of` meets its contract. By the side; each length is 17 at most.
-use Rattle.model.proofs.Field.{plan_body_most, table_body_most}
+use Rattle.model.proofs.FieldLaws.{plan_body_most, table_body_most}
 use Rattle.model.specs.declared.Side.{Side}
 use Rattle.model.specs.Field.{body_of}
 use native.Mathlib.Omega.{arith}

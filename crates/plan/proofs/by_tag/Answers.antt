@@ -1,5 +1,5 @@
 -- `plan::by_tag` meets its contract. A tag's body length says how far the field reaches.
-use Rattle.model.proofs.Field.{header_body, task_body, edge_body}
+use Rattle.model.proofs.FieldLaws.{header_body, task_body, edge_body}
 use Rattle.plan.proofs.Ways.{tagged_header, tagged_task, tagged_edge}
 use native.Mathlib.Omega.{arith}
 use Rattle.plan.proofs.by_tag.Goals as goal

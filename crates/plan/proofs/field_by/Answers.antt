@@ -1,5 +1,5 @@
 -- `plan::field_by` meets its contract. By what the step found.
-use Rattle.model.proofs.Field.{whole}
+use Rattle.model.proofs.FieldLaws.{whole}
 use Rattle.model.specs.declared.Side.TheVariants.{OfPlan}
 use Rattle.model.specs.Plan.{field_by}
 use mathlib.Core.Path.{sym, ap, ◌∙◌}

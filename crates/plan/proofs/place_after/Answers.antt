@@ -1,8 +1,7 @@
 -- `plan::place_after` meets its contract. Each arm is given which case `field_at` returned; a field ends within the bytes.
-use Rattle.model.proofs.Field.{whole}
-use Rattle.model.specs.declared.Step.{Step}
+use Rattle.model.proofs.FieldLaws.{whole}
 use Rattle.model.specs.declared.Side.TheVariants.{OfPlan}
-use Rattle.model.specs.Field.{place_after}
+use Rattle.model.specs.Field.{place_after, Step}
 use native.Mathlib.Omega.{arith}
 use mathlib.Core.Path.{sym, ap, ◌∙◌}
 use Rattle.plan.proofs.place_after.Goals as goal

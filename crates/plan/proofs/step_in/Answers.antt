@@ -1,6 +1,6 @@
--- `plan::step_in` meets its contract. One law for each way out (model, proofs/Field.antt).
+-- `plan::step_in` meets its contract. One law for each way out (model, proofs/FieldLaws.antt).
 use mathlib.Core.Path.{◌∙◌}
-use Rattle.model.proofs.Field.{step_end, step_cut, step_unknown, step_length, step_body, step_field}
+use Rattle.model.proofs.FieldLaws.{step_end, step_cut, step_unknown, step_length, step_body, step_field}
 use Rattle.plan.proofs.step_in.Goals as goal
 
 pub returns-then-s-place : goal.returns-then-s-place

@@ -1,14 +1,14 @@
 -- `verifier::crosses` meets its contract. A loop over a check.
 use Rattle.model.specs.Table.{of_numbers}
 use Rattle.model.specs.Rules.{cross_at}
-use Rattle.model.specs.declared.Check.TheVariants.{Good}
 use Rattle.model.specs.Refusals.{first_bad}
 use Prim.Native.Nat.{◌≤◌, ◌-◌}
 use mathlib.Core.Path.{◌≡◌}
 use Rattle.verifier.proofs.crosses.Given as goal
+use Rattle.std.specs.Prelude.{Ok}
 
 abbrev pub invariant-loop-i : goal.invariant-loop-i
-invariant-loop-i l = (l.i ≤ l.tasks) × (first_bad (λ k. first_bad (cross_at (of_numbers l.table) k) l.tasks) l.i ≡ Good)
+invariant-loop-i l = (l.i ≤ l.tasks) × (first_bad (λ k. first_bad (cross_at (of_numbers l.table) k) l.tasks) l.i ≡ (Ok tt))
 
 abbrev pub decreases-loop-i : goal.decreases-loop-i
 decreases-loop-i l = l.tasks - l.i
