@@ -25,7 +25,8 @@ impl Reach<'_> {
     // Phase y is on another core than phase x and overlaps its window.
     #[tactic(auto, unfolding(crate::specs::Columns::near_by))]
     fn near(&self, x: usize, y: usize) -> bool
-        requires { (x < length self.now.phases.core.now) × (y < length self.now.phases.core.now) }
+        requires phase { x < length self.now.phases.core.now }
+        requires other { y < length self.now.phases.core.now }
         ensures { result ≡ near_to self.now.phases self.now.closes.now x y }
     {
         let PhaseColumns {
@@ -39,7 +40,9 @@ impl Reach<'_> {
 
     // How many phases from lo on and before hi are near phase x.
     fn near_between(&self, x: usize, lo: usize, hi: usize) -> u32
-        requires { (x < length self.now.phases.core.now) × (lo ≤ hi) × (hi ≤ length self.now.phases.core.now) }
+        requires phase { x < length self.now.phases.core.now }
+        requires ordered { lo ≤ hi }
+        requires within { hi ≤ length self.now.phases.core.now }
         ensures { result + count_below (near_to self.now.phases self.now.closes.now x) lo ≡ count_below (near_to self.now.phases self.now.closes.now x) hi }
     {
         let mut n = 0;
@@ -51,11 +54,12 @@ impl Reach<'_> {
 
     // The rivals of phase x, which has words, `most` at most: counted where what overlaps its window can lie.
     fn rivals(&self, x: usize, most: u32) -> u32
-        requires { (x < length self.now.phases.core.now) × (0 < at self.now.phases.words.now x) }
+        requires phase { x < length self.now.phases.core.now }
+        requires loaded { 0 < at self.now.phases.words.now x }
         ensures { result ≡ min (count_below (rival (as_phases self.now.phases) x) (length self.now.phases.core.now)) most }
     {
         let lo = crate::back_to(self.tops, x, self.phases.start[x]);
-        let hi = crate::ahead_to(self.lows, self.phases.core.len(), x, self.phases.end[x]);
+        let hi = crate::ahead_to(self.lows, x, self.phases.end[x]);
         let n = self.near_between(x, lo, hi);
         n.min(most)
     }
@@ -63,7 +67,9 @@ impl Reach<'_> {
     // The delay of phase x with its counted rivals: one on each other core at most.
     #[tactic(auto, using(crate::proofs::Rivalry::delays))]
     pub fn delay(&self, bus: Bus, x: usize) -> Time
-        requires { Settings bus × (x < length self.now.phases.core.now) × (at self.now.phases.words.now x ≤ most_words) }
+        requires settings { Settings bus }
+        requires phase { x < length self.now.phases.core.now }
+        requires load { at self.now.phases.words.now x ≤ most_words }
         ensures { result.0 ≡ delay_at bus (as_phases self.now.phases) x }
     {
         let own = self.phases.words[x];

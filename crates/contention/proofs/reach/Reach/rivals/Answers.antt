@@ -4,14 +4,13 @@ use Rattle.contention.proofs.Ranges.{back_le, rivals_between}
 use native.Mathlib.Omega.{arith}
 use Rattle.contention.proofs.reach.Reach.rivals.Goals as goal
 
-pub near_between-n-requires : goal.near_between-n-requires
-near_between-n-requires c =
+pub near_between-n-requires-clause-ordered : goal.near_between-n-requires-clause-ordered
+near_between-n-requires-clause-ordered c =
     let r = c.args.self.now in
-    let hi = c.ahead_to-hi.ensures in
-    (c.requires.0, omega (arith, c.back_to-lo.ensures, hi.0, back_le r.tops.now (at r.phases.start.now c.args.x) c.args.x), hi.1)
+    omega (arith, c.back_to-lo.ensures, c.ahead_to-hi.ensures.from, back_le r.tops.now (at r.phases.start.now c.args.x) c.args.x)
 
 pub returns : goal.returns
 returns c =
     let r = c.args.self.now in
-    let n = rivals_between _ _ _ _ _ _ _ _ c.args.x r.spread c.requires.0 c.requires.1 _ _ _ c.back_to-lo.ensures c.ahead_to-hi.ensures.1 c.ahead_to-hi.ensures.2 c.near_between-n.ensures in
+    let n = rivals_between _ _ _ _ _ _ _ _ c.args.x r.spread c.requires.phase c.requires.loaded _ _ _ c.back_to-lo.ensures c.ahead_to-hi.ensures.within c.ahead_to-hi.ensures.here c.near_between-n.ensures in
     omega (arith, n, c.min.ensures)
