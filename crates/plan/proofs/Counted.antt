@@ -1,4 +1,4 @@
--- Edges that are counted: the loops of `count_edges`, `first_edge` and `release`, and where the next task is looked for.
+-- Edges that are counted: the loops of `waiting` and `release`, and where the next task is looked for.
 -- Assumes nothing.
 use mathlib.Core.Path.{◌≡◌, refl, sym, ap, ◌∙◌}
 use mathlib.Core.Bool.{Bool, false, ◌&&◌}
@@ -12,7 +12,7 @@ use borrow.Author.Tests.{eq-eqb, ne_eqb}
 use Rattle.model.specs.Below.{join_below, at, bit, count_below}
 use Rattle.model.proofs.Tests.{lt_or_ge, same_or_not}
 use Rattle.model.proofs.Below.{join_step, sum_zero, sum_longer, first}
-use Rattle.plan.specs.Order.{Rising, Parts, Passed, Raised, Released, edges_to, edges_between, next_by}
+use Rattle.plan.specs.Order.{Parts, Passed, Raised, Released, edges_to, edges_between, next_by}
 
 -- nothing is counted from e on
 count_rest : (p : ℕ → Bool) (e m : ℕ) → e ≤ m → ((k : ℕ) → e ≤ k → k < m → p k ≡ false) → count_below p m ≡ count_below p e
@@ -53,7 +53,7 @@ module _ (f g : ℕ → ℕ) (a b : List ℕ) (r : Raised f a b) (t : ℕ) (s : 
             (λ d. rw (get_or-set_other a t j (at a t - 1) 0 d) (omega (arith, r.each j, s j, ap bit (ne_eqb t j (λ q. d (sym q))))));
       }
 
--- ---- the loop of `count_edges`, at edge e
+-- ---- the loop of `waiting`, at edge e
 module _ (targets : List ℕ) where
   to_more : (e t : ℕ) → t ≡ at targets e → (j : ℕ) → edges_to (e + 1) targets j ≡ edges_to e targets j + bit (eqb t j)
   unfolding edges_to
@@ -74,24 +74,6 @@ module _ (targets : List ℕ) where
     pub to_next : t < length l → Raised (edges_to (e + 1) targets) l₀ (set l t (at l t + 1))
     to_next h = raised_up _ _ l₀ l r t (to_more e t q) h
 
--- ---- the loop of `first_edge`: edge k decides
-module _ (m : ℕ) (sources : List ℕ) (i low high k : ℕ) (u : Rising m sources) (w : Parts m sources i low high) where
-  pub parts_up : k < high → at sources k < i → Parts m sources i (k + 1) high
-  parts_up h l =
-      record {
-        within = w.within;
-        below = λ e b. omega (arith, u.up e k (omega arith) (omega (arith, w.within)));
-        above = w.above;
-      }
-
-  pub parts_down : k < high → i ≤ at sources k → Parts m sources i low k
-  parts_down h l =
-      record {
-        within = omega (arith, w.within);
-        below = w.below;
-        above = λ e a b. omega (arith, u.up k e a b);
-      }
-
 -- ---- the loop of `release`, at edge e
 module _ (sources targets : List ℕ) (i : ℕ) where
   between_more : (e t : ℕ) → t ≡ at targets e → at sources e ≡ i → (j : ℕ)
@@ -100,14 +82,14 @@ module _ (sources targets : List ℕ) (i : ℕ) where
   between_more e t q p j = rw (join_step, q, eq-eqb (at sources e) i p)
 
   -- none before the first edge from i
-  before_none : (m e : ℕ) → Parts m sources i e e → (j : ℕ) → edges_between e sources targets i j ≡ 0
+  before_none : (e : ℕ) → Parts sources i e e → (j : ℕ) → edges_between e sources targets i j ≡ 0
   unfolding edges_between
-  before_none m e w j =
+  before_none e w j =
       sum_zero _ e (λ k h. ap bit (ap (λ (b : Bool). b && eqb (at targets k) j) (ne_eqb (at sources k) i (λ q. omega (arith, w.below k h)))))
 
-  pub released_none : (m e : ℕ) → Parts m sources i e e → (l : List ℕ) → Released e sources targets i l l i
-  released_none m e w l =
-      record { lowered = raised_none _ l (before_none m e w); least = omega arith; clear = λ k h. before_none m e w k }
+  pub released_none : (e : ℕ) → Parts sources i e e → (l : List ℕ) → Released e sources targets i l l i
+  released_none e w l =
+      record { lowered = raised_none _ l (before_none e w); least = omega arith; clear = λ k h. before_none e w k }
 
   module _ (m e : ℕ) (l₀ l : List ℕ) (low : ℕ) (within : e ≤ m) (r : Released e sources targets i l₀ l low) where
     module _ (t : ℕ) (p : at sources e ≡ i) (q : t ≡ at targets e) (h : e < m) where

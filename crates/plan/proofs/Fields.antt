@@ -6,20 +6,29 @@ use Prim.Native.Nat.{ℕ, suc, ◌+◌, ◌-◌, ◌≤◌, ◌<◌}
 use native.Mathlib.Nat.{add-zero, zero-add}
 use native.Mathlib.Omega.{arith}
 use lib.Dec.{eqb}
-use lib.ListN.{length, set, drop}
+use lib.ListN.{length, set, drop, replicate}
 use lib.Seq.{sets, sets-eq, length-sets}
 use borrow.Author.Tests.{lt-ltb, ne_eqb}
-use Rattle.model.specs.Plan.{Plan, Reading, tasks, edges, key_of, field_of, no_plan, with_bus, with_task, with_edge, least_key, on_with, reading_from, reading_of, seen as seen_of}
+use Rattle.std.specs.Prelude.{Option, Some, None, Ok, Err}
+use Rattle.model.specs.Field.{plan_step, Step}
+use Rattle.model.specs.Plan.{Plan, Reading, Next, tasks, edges, key_of, field_of, no_plan, with_bus, with_task, with_edge, least_key, on_with, reading_from, reading_of, seen as seen_of}
+use Rattle.model.specs.Refusals.{Check}
 use Rattle.model.specs.declared.Bus.{Bus}
+use Rattle.model.specs.declared.Field.{Field}
 use Rattle.model.specs.declared.Refusal.{Refusal}
 use Rattle.model.specs.declared.Seen.{Seen}
+use Rattle.model.specs.declared.Side.TheVariants.{OfPlan}
 use Rattle.model.specs.declared.Taken.{Taken}
 use Rattle.model.specs.declared.Taken.TheVariants.{Header, Task, Edge}
+use Rattle.model.proofs.FieldLaws.{Whole, whole}
 use Rattle.model.proofs.Plan.{Took, HeaderTaken, TaskTaken, EdgeTaken, took, reading_on, snoc_length, snoc_new, Partly, partly_none, partly_header, partly_task, partly_edge}
-use Rattle.plan.specs.Planned.{parsed_by, filled, after_header, after_task, after_edge}
-use Rattle.plan.specs.declared.Parsed.{Parsed}
-use Rattle.std.specs.Prelude.{Ok, Err}
-use Rattle.model.specs.Refusals.{Check}
+use Rattle.plan.specs.Planned.{filled, columns_of, after, kept, Room}
+use Rattle.plan.specs.declared.Columns.{Columns}
+
+-- ---- a step that finds a field finds a whole one
+pub found_whole : (bytes : List ℕ) (place : ℕ) (x : Step) (o : Option Field) (f : Field) → x ≡ plan_step bytes place → x ≡ Ok o → o ≡ Some f
+    → Whole OfPlan bytes place f.tag f.at f.body
+found_whole bytes place x o f e p q = whole OfPlan bytes place (sym e ∙ (p ∙ ap (λ (y : Option Field). Ok y) q))
 
 -- ---- columns
 pub filled_none : (l : List ℕ) → l ≡ filled [] l
@@ -69,44 +78,58 @@ least_edge p from to words h =
       snoc_new p.targets to (length (p.sources ++ (from ∷ [])) - 1) (omega arith),
     )
 
+-- ---- the columns with one field more
+module _ (p : Plan) (order : List ℕ) where
+  columns_header : (b : Bus) (next : ℕ) → kept (columns_of p order) (Header b next) ≡ columns_of (with_bus p b) order
+  unfolding columns_of
+  columns_header b next = refl
+
+  columns_task : (c next : ℕ) → kept (columns_of p order) (Task c next) ≡ columns_of (with_task p c) order
+  unfolding columns_of
+  columns_task c next = rw (snoc_length p.costs c, filled_more p.costs (replicate 64 0) (filled p.costs (replicate 64 0)) (tasks p) c refl refl)
+
+  columns_edge : (from to words next : ℕ) → length p.targets ≡ edges p → length p.amounts ≡ edges p
+      → kept (columns_of p order) (Edge from to words next) ≡ columns_of (with_edge p from to words) order
+  unfolding columns_of
+  columns_edge from to words next et ea =
+      rw (
+        snoc_length p.sources from,
+        filled_more p.sources (replicate 256 0) (filled p.sources (replicate 256 0)) (edges p) from refl refl,
+        filled_more p.targets (replicate 256 0) (filled p.targets (replicate 256 0)) (edges p) to refl (sym et),
+        filled_more p.amounts (replicate 256 0) (filled p.amounts (replicate 256 0)) (edges p) words refl (sym ea),
+      )
+
 -- ---- at the head of the loop: the plan so far, which the rest of the bytes completes
-pub record From (bytes costs₀ sources₀ targets₀ amounts₀ costs sources targets amounts : List ℕ) (b : Bus) (s : Seen) : Type 0 where
+pub record From (bytes : List ℕ) (c : Columns) (s : Seen) : Type 0 where
   pub sofar : Plan
-  pub bus : b ≡ sofar.bus
   pub seen : s ≡ seen_of s.at sofar
   pub partly : Partly bytes s.at sofar
   pub within : s.at ≤ length bytes
   pub same : reading_from bytes s.at sofar ≡ reading_of bytes
-  pub with_costs : costs ≡ filled sofar.costs costs₀
-  pub with_sources : sources ≡ filled sofar.sources sources₀
-  pub with_targets : targets ≡ filled sofar.targets targets₀
-  pub with_amounts : amounts ≡ filled sofar.amounts amounts₀
+  pub columns : c ≡ columns_of sofar (replicate 64 0)
 
-pub from_start : (bytes c s t a : List ℕ) → From bytes c s t a c s t a no_plan.bus (record { at = 0; started = false; tasks = 0; edges = 0; least = 0 })
+pub from_start : (bytes : List ℕ) (c : Columns) → c ≡ columns_of no_plan (replicate 64 0)
+    → From bytes c (record { at = 0; started = false; tasks = 0; edges = 0; least = 0 })
 unfolding reading_of least_key
-from_start bytes c s t a =
+from_start bytes c e =
     record {
       sofar = no_plan;
-      bus = refl;
       seen = refl;
       partly = partly_none bytes;
       within = omega arith;
       same = refl;
-      with_costs = filled_none c;
-      with_sources = filled_none s;
-      with_targets = filled_none t;
-      with_amounts = filled_none a;
+      columns = e;
     }
 
-module _ (bytes c₀ s₀ t₀ a₀ c s t a : List ℕ) (b : Bus) (k : Seen) (f : From bytes c₀ s₀ t₀ a₀ c s t a b k) (x : Taken) (ex : x ≡ field_of bytes k) where
+module _ (bytes : List ℕ) (c : Columns) (k : Seen) (f : From bytes c k) (x : Next) (ex : x ≡ field_of bytes k) where
   -- what the field gave, and the reading behind it
-  gave : {y : Taken} → x ≡ y → Took bytes k y
+  gave : {y : Next} → x ≡ y → Took bytes k y
   gave e = subst (Took bytes k) (sym ex ∙ e) (took bytes k)
 
-  reading : {y : Taken} → x ≡ y → on_with f.sofar y (reading_from bytes) ≡ reading_of bytes
+  reading : {y : Next} → x ≡ y → on_with f.sofar y (reading_from bytes) ≡ reading_of bytes
   reading {y} e =
       let q : field_of bytes (seen_of k.at f.sofar) ≡ y = ap (field_of bytes) (sym f.seen) ∙ (sym ex ∙ e) in
-      ap (λ (z : Taken). on_with f.sofar z (reading_from bytes)) (sym q) ∙ (sym (reading_on bytes k.at f.sofar f.within) ∙ f.same)
+      ap (λ (z : Next). on_with f.sofar z (reading_from bytes)) (sym q) ∙ (sym (reading_on bytes k.at f.sofar f.within) ∙ f.same)
 
   tasks_is : k.tasks ≡ tasks f.sofar
   tasks_is = ap (λ (z : Seen). z.tasks) f.seen
@@ -114,116 +137,96 @@ module _ (bytes c₀ s₀ t₀ a₀ c s t a : List ℕ) (b : Bus) (k : Seen) (f 
   edges_is : k.edges ≡ edges f.sofar
   edges_is = ap (λ (z : Seen). z.edges) f.seen
 
-  pub task_room : {cost next : ℕ} → x ≡ Task cost next → k.tasks < 64
-  task_room e = (gave e).room
+  columns_tasks : c.tasks ≡ tasks f.sofar
+  unfolding columns_of
+  columns_tasks = ap (λ (z : Columns). z.tasks) f.columns
 
-  pub edge_room : {from to words next : ℕ} → x ≡ Edge from to words next → k.edges < 256
-  edge_room e = (gave e).room
+  columns_edges : c.edges ≡ edges f.sofar
+  unfolding columns_of
+  columns_edges = ap (λ (z : Columns). z.edges) f.columns
 
-  from_header : {given : Bus} {next : ℕ} → x ≡ Header given next → From bytes c₀ s₀ t₀ a₀ c s t a given (after_header k next)
-  from_header {given} {next} e =
+  -- there is room for it
+  pub seen_room : (t : Taken) → x ≡ Ok (Some t) → Room k.tasks k.edges t
+  seen_room (Header b next) e = tt
+  seen_room (Task cost next) e = (gave e).room
+  seen_room (Edge from to words next) e = (gave e).room
+
+  pub columns_room : (t : Taken) → x ≡ Ok (Some t) → Room c.tasks c.edges t
+  columns_room (Header b next) e = tt
+  columns_room (Task cost next) e = omega (arith, (gave e).room, tasks_is, columns_tasks)
+  columns_room (Edge from to words next) e = omega (arith, (gave e).room, edges_is, columns_edges)
+
+  -- it goes forward
+  behind : (t : Taken) → x ≡ Ok (Some t) → (k.at < (after k t).at) × ((after k t).at ≤ length bytes)
+  behind (Header b next) e = (omega (arith, (gave e).behind), (gave e).fits)
+  behind (Task cost next) e = (omega (arith, (gave e).behind), (gave e).fits)
+  behind (Edge from to words next) e = (omega (arith, (gave e).behind), (gave e).fits)
+
+  pub from_less : (t : Taken) (z : Seen) → x ≡ Ok (Some t) → z ≡ after k t → length bytes - z.at < length bytes - k.at
+  from_less t z e q = let b = behind t e in omega (arith, b.0, b.1, ap (λ (y : Seen). y.at) q)
+
+  -- and carries the plan so far on
+  from_header : (given : Bus) (next : ℕ) → x ≡ Ok (Some (Header given next)) → From bytes (kept c (Header given next)) (after k (Header given next))
+  from_header given next e =
       let w : HeaderTaken bytes (seen_of k.at f.sofar) given next = subst (λ (z : Seen). HeaderTaken bytes z given next) f.seen (gave e) in
       record {
         sofar = with_bus f.sofar given;
-        bus = refl;
         seen = seen_is _ _ refl (sym (lt-ltb 0 given.cores w.settings.cores_some)) tasks_is edges_is (ap (λ (z : Seen). z.least) f.seen ∙ least_bus f.sofar given);
         partly = partly_header bytes k.at f.sofar f.partly given next w;
         within = w.fits;
         same = reading e;
-        with_costs = f.with_costs;
-        with_sources = f.with_sources;
-        with_targets = f.with_targets;
-        with_amounts = f.with_amounts;
+        columns = ap (λ (z : Columns). kept z (Header given next)) f.columns ∙ columns_header f.sofar (replicate 64 0) given next;
       }
 
-  from_task : {cost next : ℕ} → x ≡ Task cost next → From bytes c₀ s₀ t₀ a₀ (set c k.tasks cost) s t a b (after_task k next)
-  from_task {cost} {next} e =
+  from_task : (cost next : ℕ) → x ≡ Ok (Some (Task cost next)) → From bytes (kept c (Task cost next)) (after k (Task cost next))
+  from_task cost next e =
       let w : TaskTaken bytes (seen_of k.at f.sofar) cost next = subst (λ (z : Seen). TaskTaken bytes z cost next) f.seen (gave e) in
       record {
         sofar = with_task f.sofar cost;
-        bus = f.bus;
         seen =
             seen_is _ _ refl (ap (λ (z : Seen). z.started) f.seen) (omega (arith, tasks_is, snoc_length f.sofar.costs cost)) edges_is
             (ap (λ (z : Seen). z.least) f.seen ∙ least_task f.sofar cost);
         partly = partly_task bytes k.at f.sofar f.partly cost next w;
         within = w.fits;
         same = reading e;
-        with_costs = filled_more f.sofar.costs c₀ c k.tasks cost f.with_costs tasks_is;
-        with_sources = f.with_sources;
-        with_targets = f.with_targets;
-        with_amounts = f.with_amounts;
+        columns = ap (λ (z : Columns). kept z (Task cost next)) f.columns ∙ columns_task f.sofar (replicate 64 0) cost next;
       }
 
-  from_edge : {from to words next : ℕ} → x ≡ Edge from to words next
-      → From bytes c₀ s₀ t₀ a₀ c (set s k.edges from) (set t k.edges to) (set a k.edges words) b (after_edge k from to next)
-  from_edge {from} {to} {words} {next} e =
+  from_edge : (from to words next : ℕ) → x ≡ Ok (Some (Edge from to words next))
+      → From bytes (kept c (Edge from to words next)) (after k (Edge from to words next))
+  from_edge from to words next e =
       let w : EdgeTaken bytes (seen_of k.at f.sofar) from to words next = subst (λ (z : Seen). EdgeTaken bytes z from to words next) f.seen (gave e) in
       let v = f.partly.ranges in
       record {
         sofar = with_edge f.sofar from to words;
-        bus = f.bus;
         seen =
             seen_is _ _ refl (ap (λ (z : Seen). z.started) f.seen) tasks_is (omega (arith, edges_is, snoc_length f.sofar.sources from))
             (least_edge f.sofar from to words v.targets_all);
         partly = partly_edge bytes k.at f.sofar f.partly from to words next w;
         within = w.fits;
         same = reading e;
-        with_costs = f.with_costs;
-        with_sources = filled_more f.sofar.sources s₀ s k.edges from f.with_sources edges_is;
-        with_targets = filled_more f.sofar.targets t₀ t k.edges to f.with_targets (omega (arith, edges_is, v.targets_all));
-        with_amounts = filled_more f.sofar.amounts a₀ a k.edges words f.with_amounts (omega (arith, edges_is, v.amounts_all));
+        columns =
+            ap (λ (z : Columns). kept z (Edge from to words next)) f.columns
+            ∙ columns_edge f.sofar (replicate 64 0) from to words next v.targets_all v.amounts_all;
       }
 
-  -- each field that goes on goes forward
-  abbrev left : Seen → ℕ
-  left z = length bytes - z.at
+  from_taken : (t : Taken) → x ≡ Ok (Some t) → From bytes (kept c t) (after k t)
+  from_taken (Header given next) e = from_header given next e
+  from_taken (Task cost next) e = from_task cost next e
+  from_taken (Edge from to words next) e = from_edge from to words next e
 
-  pub header_less : {given : Bus} {next : ℕ} (z : Seen) → x ≡ Header given next → z ≡ after_header k next → left z < left k
-  header_less z e q = omega (arith, (gave e).behind, (gave e).fits, ap (λ (y : Seen). y.at) q)
-
-  pub task_less : {cost next : ℕ} (z : Seen) → x ≡ Task cost next → z ≡ after_task k next → left z < left k
-  task_less z e q = omega (arith, (gave e).behind, (gave e).fits, ap (λ (y : Seen). y.at) q)
-
-  pub edge_less : {from to words next : ℕ} (z : Seen) → x ≡ Edge from to words next → z ≡ after_edge k from to next → left z < left k
-  edge_less z e q = omega (arith, (gave e).behind, (gave e).fits, ap (λ (y : Seen). y.at) q)
-
-  pub header_on : {given : Bus} {next : ℕ} (z : Seen) → x ≡ Header given next → z ≡ after_header k next → From bytes c₀ s₀ t₀ a₀ c s t a given z
-  header_on {given} z e q = subst (From bytes c₀ s₀ t₀ a₀ c s t a given) (sym q) (from_header e)
-
-  pub task_on : {cost next : ℕ} (z : Seen) → x ≡ Task cost next → z ≡ after_task k next → From bytes c₀ s₀ t₀ a₀ (set c k.tasks cost) s t a b z
-  task_on {cost} z e q = subst (From bytes c₀ s₀ t₀ a₀ (set c k.tasks cost) s t a b) (sym q) (from_task e)
-
-  pub edge_on : {from to words next : ℕ} (z : Seen) → x ≡ Edge from to words next → z ≡ after_edge k from to next
-      → From bytes c₀ s₀ t₀ a₀ c (set s k.edges from) (set t k.edges to) (set a k.edges words) b z
-  edge_on {from} {to} {words} z e q =
-      subst (From bytes c₀ s₀ t₀ a₀ c (set s k.edges from) (set t k.edges to) (set a k.edges words) b) (sym q) (from_edge e)
+  pub from_next : (t : Taken) (d : Columns) (z : Seen) → x ≡ Ok (Some t) → d ≡ kept c t → z ≡ after k t → From bytes d z
+  from_next t d z e q r = rw (q, r) (from_taken t e)
 
   -- the end
-  abbrev Ended : Parsed → Type 0
-  Ended r =
-      (r ≡ parsed_by (reading_of bytes))
-      × ((c ≡ filled (reading_of bytes).plan.costs c₀)
-      × (s ≡ filled (reading_of bytes).plan.sources s₀)
-      × (t ≡ filled (reading_of bytes).plan.targets t₀)
-      × (a ≡ filled (reading_of bytes).plan.amounts a₀))
+  abbrev Ended : Check → Type 0
+  Ended r = (r ≡ (reading_of bytes).check) × (c ≡ columns_of (reading_of bytes).plan (replicate 64 0))
 
-  ended : (r : Parsed) (y : Reading) → y.plan ≡ f.sofar → y ≡ reading_of bytes → r ≡ parsed_by y → Ended r
-  ended r y p q e =
-      let sp : f.sofar ≡ (reading_of bytes).plan = sym p ∙ ap (λ (z : Reading). z.plan) q in (
-        e ∙ ap parsed_by q,
-        (
-          f.with_costs ∙ ap (λ (z : Plan). filled z.costs c₀) sp,
-          f.with_sources ∙ ap (λ (z : Plan). filled z.sources s₀) sp,
-          f.with_targets ∙ ap (λ (z : Plan). filled z.targets t₀) sp,
-          f.with_amounts ∙ ap (λ (z : Plan). filled z.amounts a₀) sp,
-        ),
-      )
+  ended : (r : Check) → (record { plan = f.sofar; check = r }) ≡ reading_of bytes → Ended r
+  ended r q = (ap (λ (z : Reading). z.check) q, f.columns ∙ ap (λ (z : Reading). columns_of z.plan (replicate 64 0)) q)
 
-  shaped : (x : Check) → (record { check = x; shape = record { bus = b; tasks = k.tasks; edges = k.edges } }) ≡ parsed_by (record { plan = f.sofar; check = x })
-  shaped x = λ i. record { check = x; shape = record { bus = f.bus i; tasks = tasks_is i; edges = edges_is i } }
+  pub from_complete : x ≡ Ok None → Ended (Ok tt)
+  from_complete e = ended (Ok tt) (reading e)
 
-  pub from_complete : x ≡ Complete → Ended (record { check = (Ok tt); shape = record { bus = b; tasks = k.tasks; edges = k.edges } })
-  from_complete e = ended _ (record { plan = f.sofar; check = (Ok tt) }) refl (reading e) (shaped (Ok tt))
-
-  pub from_refused : {r : Refusal} → x ≡ Refused r → Ended (record { check = Err r; shape = record { bus = b; tasks = k.tasks; edges = k.edges } })
-  from_refused {r} e = ended _ (record { plan = f.sofar; check = Err r }) refl (reading e) (shaped (Err r))
+  pub from_refused : {r : Refusal} → x ≡ Err r → Ended (Err r)
+  from_refused {r} e = ended (Err r) (reading e)

@@ -1,4 +1,3 @@
-pub mod Ways
 pub mod Fields
 pub mod Counted
 pub mod Waiting

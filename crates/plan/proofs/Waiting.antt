@@ -7,9 +7,10 @@ use native.Mathlib.Nat.{zero-add}
 use native.Mathlib.Numerals.{add-one}
 use native.Mathlib.Omega.{arith}
 use lib.Dec.{ltb, eqb}
-use lib.ListN.{length, set, take, replicate, length-replicate, length-set}
-use lib.Seq.{get_or-set_same, get_or-set_other, get_or-take, length-take-le}
-use borrow.Author.Tests.{eq-eqb, ne_eqb, lt-ltb, le-ltb, eqb-true, not-true, not-false}
+use lib.ListN.{length, set, replicate, length-replicate, length-set}
+use lib.Seq.{get_or-set_same, get_or-set_other}
+use borrow.Author.Tests.{eq-eqb, ne_eqb, lt-ltb, le-ltb, ltb-true, ltb-false, eqb-true, not-true, not-false}
+use Rattle.std.specs.List.Sorted.{IsPartitionPoint}
 use Rattle.model.specs.Below.{join_below, at, bit, count_below, all_below, first_below}
 use Rattle.model.specs.Plan.{Plan, tasks, edges, source, target, key_of}
 use Rattle.model.specs.Graph.{place_of, taken, ready, Listing, next_task, take_next, listed, list_order, left_over}
@@ -19,7 +20,7 @@ use Rattle.model.proofs.Below.{sum_same, sum_add, sum_zero, sum_ge, first_same, 
 use Rattle.model.proofs.Plan.{snoc_length}
 use Rattle.plan.specs.Planned.{filled}
 use Rattle.plan.proofs.Fields.{filled_none, filled_more}
-use Rattle.plan.specs.Order.{graph_of, Edges, Rising, Raised, edges_to, edges_between, open_to, left_by, next_by}
+use Rattle.plan.specs.Order.{graph_of, Edges, Parts, Raised, edges_to, edges_between, open_to, left_by, next_by}
 
 -- ---- nothing is taken, nothing is counted
 none_taken : (i : ℕ) → taken [] i ≡ false
@@ -39,9 +40,12 @@ count_none p q m h =
     (λ z. omega (arith, sum_ge (λ e. bit (p e)) m w.0 w.1, ap bit (not-false (p w.0) (sym (h w.0 w.1) ∙ w.2))))))
 
 -- ---- a graph stands for the plans that have its tasks and edges
-module _ (n m : ℕ) (sources targets : List ℕ) where
+module _ (n : ℕ) (sources targets : List ℕ) where
+  abbrev m : ℕ
+  m = length sources
+
   abbrev graph : Plan
-  graph = graph_of n m sources targets
+  graph = graph_of n sources targets
 
   pub graph_tasks : tasks graph ≡ n
   unfolding graph_of
@@ -72,19 +76,11 @@ module _ (n m : ℕ) (sources targets : List ℕ) where
     pub long : length left ≡ 64
     pub each : (j : ℕ) → j < n → at left j ≡ left_by m sources targets o j
 
-  module _ (ok : Edges n m sources targets) where
-    graph_edges : edges graph ≡ m
-    unfolding graph_of
-    graph_edges = length-take-le m sources ok.long
+  graph_edges : edges graph ≡ m
+  unfolding graph_of
+  graph_edges = refl
 
-    graph_source : (e : ℕ) → e < m → source graph e ≡ at sources e
-    unfolding graph_of
-    graph_source e h = get_or-take m sources e 0 h
-
-    graph_target : (e : ℕ) → e < m → target graph e ≡ at targets e
-    unfolding graph_of
-    graph_target e h = get_or-take m targets e 0 h
-
+  module _ (ok : Edges n sources targets) where
     -- ---- edges rise
     key_less : (e k : ℕ) → e < k → k < m → key_of (at sources e) (at targets e) < key_of (at sources k) (at targets k)
     key_less e zero h l = absurd (omega arith)
@@ -92,16 +88,11 @@ module _ (n m : ℕ) (sources targets : List ℕ) where
         let last : key_of (at sources k) (at targets k) < key_of (at sources (suc k)) (at targets (suc k)) = rw add-one at (ok.rising k (omega arith)) in
         below_suc e k h (λ b. omega (arith, key_less e k b (omega arith))) (λ q. rw q last)
 
-    pub sources_rise : Rising m sources
-    sources_rise =
-        record {
-          few = ok.few_edges;
-          up =
-              λ d e h l.
-              same_or_not d e
-              (λ q. rw q (omega arith))
-              (λ n. omega (arith, key_less d e (omega arith) l, ok.targets_low e l, ok.few_tasks));
-        }
+    pub sources_rise : (d e : ℕ) → d ≤ e → e < m → at sources d ≤ at sources e
+    sources_rise d e h l =
+        same_or_not d e
+        (λ q. rw q (omega arith))
+        (λ n. omega (arith, key_less d e (omega arith) l, ok.targets_low e l, ok.few_tasks))
 
     -- as many edges end at a task as there are tasks, at most: one from each
     to_le : (j k v : ℕ) → k ≤ m → ((e : ℕ) → e < k → at targets e ≡ j → at sources e < v) → edges_to k targets j ≤ v
@@ -118,8 +109,8 @@ module _ (n m : ℕ) (sources targets : List ℕ) where
         ))
         (λ d. omega (arith, ap bit (ne_eqb (at targets k) j d), to_le j k v (omega arith) (λ e l p. low e (omega arith) p)))
 
-    pub to_room : (j : ℕ) → at (replicate 64 1) j + edges_to m targets j < 256
-    to_room j = omega (arith, ones 64 j, to_le j m n (omega arith) (λ e l p. ok.sources_low e l), ok.few_tasks)
+    pub to_room : (j : ℕ) → at (replicate 64 1) j + edges_to (length targets) targets j < 256
+    to_room j = rw ok.paired (omega (arith, ones 64 j, to_le j m n (omega arith) (λ e l p. ok.sources_low e l), ok.few_tasks))
       where
         ones : (k j : ℕ) → at (replicate k 1) j ≤ 1
         ones zero j = omega arith
@@ -133,8 +124,9 @@ module _ (n m : ℕ) (sources targets : List ℕ) where
         sum_same (λ e. bit (not (taken [] (at sources e)) && eqb (at targets e) j)) (λ e. bit (eqb (at targets e) j)) m
         (λ e h. ap (λ (b : Bool). bit (not b && eqb (at targets e) j)) (none_taken (at sources e)))
 
-    pub kept_none : (left : List ℕ) → Raised (edges_to m targets) (replicate 64 1) left → Kept [] left
-    kept_none left r =
+    pub kept_none : (left : List ℕ) → Raised (edges_to (length targets) targets) (replicate 64 1) left → Kept [] left
+    kept_none left raised =
+        let r = rw ok.paired at raised in
         record {
           long = r.long ∙ length-replicate {A = ℕ} 64 1;
           each =
@@ -157,7 +149,8 @@ module _ (n m : ℕ) (sources targets : List ℕ) where
       -- ---- ready is 1
       passes_same : (i e : ℕ) → e < m
           → cond (eqb (target graph e) i) (taken o (source graph e)) true ≡ not (not (taken o (at sources e)) && eqb (at targets e) i)
-      passes_same i e h = rw (graph_source e h, graph_target e h) (flip (taken o (at sources e)) (eqb (at targets e) i))
+      unfolding graph_of
+      passes_same i e h = flip (taken o (at sources e)) (eqb (at targets e) i)
         where
           flip : (a b : Bool) → cond b a true ≡ not (not a && b)
           flip true true = refl
@@ -181,9 +174,9 @@ module _ (n m : ℕ) (sources targets : List ℕ) where
       unfolding next_by next_task
       next_same = first_same _ _ n ready_same ∙ ap (first_below (ready graph o)) (sym graph_tasks)
 
-      pub none_next : (i : ℕ) → i ≡ next_by n left → n ≤ i → take_next graph o ≡ o
+      pub none_next : next_by n left ≡ n → take_next graph o ≡ o
       unfolding take_next
-      none_next i ei h = rw (← (ei ∙ next_same), graph_tasks, le-ltb i n h)
+      none_next e = rw (← next_same, e, graph_tasks, le-ltb n n (omega arith))
 
       -- ---- one task more
       module _ (i : ℕ) (ei : i ≡ next_by n left) (h : i < n) where
@@ -199,15 +192,15 @@ module _ (n m : ℕ) (sources targets : List ℕ) where
 
         -- no edge leads from it to a task that is taken
         between_taken : Listing graph o → (j : ℕ) → taken o j ≡ true → edges_between m sources targets i j ≡ 0
-        unfolding edges_between
+        unfolding edges_between graph_of
         between_taken l j t =
             sum_zero _ m
             (λ e k.
             either (eqb (at sources e) i && eqb (at targets e) j)
             (λ b.
             let both = and_both (eqb (at sources e) i) (eqb (at targets e) j) b in
-            let from : source graph e ≡ i = graph_source e k ∙ eqb-true (at sources e) i both.0 in
-            let to : taken o (target graph e) ≡ true = ap (λ (x : ℕ). taken o x) (graph_target e k ∙ eqb-true (at targets e) j both.1) ∙ t in
+            let from : source graph e ≡ i = eqb-true (at sources e) i both.0 in
+            let to : taken o (target graph e) ≡ true = ap (λ (x : ℕ). taken o x) (eqb-true (at targets e) j both.1) ∙ t in
             let less = l.rises e (omega (arith, k, graph_edges)) to in
             let s : taken o (source graph e) ≡ true = lt-ltb (place_of o (source graph e)) (length o) (omega (arith, less, taken_place o (target graph e) to)) in
             conflict (sym (ap (λ (x : ℕ). taken o x) from) ∙ s) untaken)
@@ -247,11 +240,11 @@ module _ (n m : ℕ) (sources targets : List ℕ) where
             }
 
 -- ---- the loop of `list_order`, after r tasks were taken
-pub record Ordered (n m : ℕ) (sources targets order₀ order left : List ℕ) (r : ℕ) : Type 0 where
+pub record Ordered (n : ℕ) (sources targets order₀ order left : List ℕ) (r : ℕ) : Type 0 where
   pub within : r ≤ n
-  pub long : length (listed (graph_of n m sources targets) r) ≡ r
-  pub ordered : order ≡ filled (listed (graph_of n m sources targets) r) order₀
-  pub kept : Kept n m sources targets (listed (graph_of n m sources targets) r) left
+  pub long : length (listed (graph_of n sources targets) r) ≡ r
+  pub ordered : order ≡ filled (listed (graph_of n sources targets) r) order₀
+  pub kept : Kept n sources targets (listed (graph_of n sources targets) r) left
 
 -- the list does not grow any more
 listed_stays : (p : Plan) (r : ℕ) → take_next p (listed p r) ≡ listed p r → (k : ℕ) → listed p (k + r) ≡ listed p r
@@ -259,32 +252,32 @@ unfolding listed
 listed_stays p r e zero = rw (zero-add r)
 listed_stays p r e (suc k) = let q : suc k + r ≡ suc (k + r) = omega arith in rw (q, listed_stays p r e k) e
 
-module _ (n m : ℕ) (s t : List ℕ) (ok : Edges n m s t) where
-  pub ordered_start : (order left : List ℕ) → Raised (edges_to m t) (replicate 64 1) left → Ordered n m s t order order left 0
+module _ (n : ℕ) (s t : List ℕ) (ok : Edges n s t) where
+  pub ordered_start : (order left : List ℕ) → Raised (edges_to (length t) t) (replicate 64 1) left → Ordered n s t order order left 0
   unfolding listed
   ordered_start order left k =
-      record { within = omega arith; long = refl; ordered = filled_none order; kept = kept_none n m s t ok left k }
+      record { within = omega arith; long = refl; ordered = filled_none order; kept = kept_none n s t ok left k }
 
-module _ (n m : ℕ) (s t : List ℕ) (ok : Edges n m s t) (order₀ order left : List ℕ) (r i : ℕ)
-    (w : Ordered n m s t order₀ order left r) (ei : i ≡ next_by n left) where
+module _ (n : ℕ) (s t : List ℕ) (ok : Edges n s t) (order₀ order left : List ℕ) (r : ℕ) (w : Ordered n s t order₀ order left r) where
   abbrev g : Plan
-  g = graph_of n m s t
+  g = graph_of n s t
 
-  pub ordered_room : i < n → (j : ℕ) → edges_between m s t i j ≤ at left j
-  ordered_room hi = between_room n m s t ok (listed g r) left w.kept i ei hi (listing g r)
+  module _ (i : ℕ) (ei : i ≡ next_by n left) (hi : i < n) where
+    pub ordered_room : (j : ℕ) → edges_between (length s) s t i j ≤ at left j
+    ordered_room = between_room n s t ok (listed g r) left w.kept i ei hi (listing g r)
 
-  pub ordered_next : r < n → i < n → (mid : List ℕ) → Raised (edges_between m s t i) mid left
-      → Ordered n m s t order₀ (set order r i) (set mid i 0) (r + 1)
-  unfolding listed
-  ordered_next hr hi mid k =
-      let more : listed g (suc r) ≡ listed g r ++ (i ∷ []) = taken_next n m s t ok (listed g r) left w.kept i ei hi in
-      let one : listed g (r + 1) ≡ listed g r ++ (i ∷ []) = ap (listed g) (add-one r) ∙ more in
-      record {
-        within = omega arith;
-        long = ap length one ∙ omega (arith, snoc_length (listed g r) i, w.long);
-        ordered = rw one (filled_more (listed g r) order₀ order r i w.ordered (sym w.long));
-        kept = rw one (kept_next n m s t ok (listed g r) left w.kept i ei hi mid k);
-      }
+    pub ordered_next : r < n → (mid : List ℕ) → Raised (edges_between (length s) s t i) mid left
+        → Ordered n s t order₀ (set order r i) (set mid i 0) (r + 1)
+    unfolding listed
+    ordered_next hr mid k =
+        let more : listed g (suc r) ≡ listed g r ++ (i ∷ []) = taken_next n s t ok (listed g r) left w.kept i ei hi in
+        let one : listed g (r + 1) ≡ listed g r ++ (i ∷ []) = ap (listed g) (add-one r) ∙ more in
+        record {
+          within = omega arith;
+          long = ap length one ∙ omega (arith, snoc_length (listed g r) i, w.long);
+          ordered = rw one (filled_more (listed g r) order₀ order r i w.ordered (sym w.long));
+          kept = rw one (kept_next n s t ok (listed g r) left w.kept i ei hi mid k);
+        }
 
   -- the end: no task is ready, or all are taken
   abbrev Ends : Type 0
@@ -293,39 +286,37 @@ module _ (n m : ℕ) (s t : List ℕ) (ok : Edges n m s t) (order₀ order left 
   ends : list_order g ≡ listed g r → Ends
   ends e = (rw e (sym w.long), rw e w.ordered)
 
-  pub ordered_stuck : n ≤ i → Ends
+  pub ordered_stuck : next_by n left ≡ n → Ends
   unfolding list_order
   ordered_stuck h =
-      let same = listed_stays g r (none_next n m s t ok (listed g r) left w.kept i ei h) (n - r) in
+      let same = listed_stays g r (none_next n s t ok (listed g r) left w.kept h) (n - r) in
       let q : n - r + r ≡ n = omega (arith, w.within) in
-      ends (ap (listed g) (graph_tasks n m s t ∙ sym q) ∙ same)
+      ends (ap (listed g) (graph_tasks n s t ∙ sym q) ∙ same)
 
-pub ordered_end : (n m : ℕ) (s t order₀ order left : List ℕ) (r : ℕ) → Ordered n m s t order₀ order left r → n ≤ r
-    → (r ≡ length (list_order (graph_of n m s t))) × (order ≡ filled (list_order (graph_of n m s t)) order₀)
-unfolding list_order
-ordered_end n m s t order₀ order left r w h =
-    let q : n ≡ r = omega (arith, w.within) in
-    let e : list_order (graph_of n m s t) ≡ listed (graph_of n m s t) r = ap (listed (graph_of n m s t)) (graph_tasks n m s t ∙ q) in
-    (rw e (sym w.long), rw e w.ordered)
+  pub ordered_end : n ≤ r → Ends
+  unfolding list_order
+  ordered_end h =
+      let q : n ≡ r = omega (arith, w.within) in
+      ends (ap (listed g) (graph_tasks n s t ∙ q))
 
--- ---- a plan and the graph of its columns have one list order
-module _ (p : Plan) (sources targets : List ℕ) (es : p.sources ≡ take (edges p) sources) (et : p.targets ≡ take (edges p) targets) where
+-- ---- a plan and the graph of its edges have one list order
+module _ (p : Plan) where
   abbrev its : Plan
-  its = graph_of (tasks p) (edges p) sources targets
+  its = graph_of (tasks p) p.sources p.targets
 
   ready_graph : (o : List ℕ) (i : ℕ) → ready p o i ≡ ready its o i
   unfolding ready graph_of
-  ready_graph o i = rw (← es, ← et)
+  ready_graph o i = refl
 
   next_graph : (o : List ℕ) → next_task p o ≡ next_task its o
   unfolding next_task
   next_graph o =
       first_same _ _ (tasks p) (λ i l. ready_graph o i)
-      ∙ ap (first_below (ready its o)) (sym (graph_tasks (tasks p) (edges p) sources targets))
+      ∙ ap (first_below (ready its o)) (sym (graph_tasks (tasks p) p.sources p.targets))
 
   take_graph : (o : List ℕ) → take_next p o ≡ take_next its o
   unfolding take_next
-  take_graph o = rw (next_graph o, graph_tasks (tasks p) (edges p) sources targets)
+  take_graph o = rw (next_graph o, graph_tasks (tasks p) p.sources p.targets)
 
   listed_graph : (k : ℕ) → listed p k ≡ listed its k
   unfolding listed
@@ -334,14 +325,17 @@ module _ (p : Plan) (sources targets : List ℕ) (es : p.sources ≡ take (edges
 
   pub order_graph : list_order p ≡ list_order its
   unfolding list_order
-  order_graph = listed_graph (tasks p) ∙ ap (listed its) (sym (graph_tasks (tasks p) (edges p) sources targets))
+  order_graph = listed_graph (tasks p) ∙ ap (listed its) (sym (graph_tasks (tasks p) p.sources p.targets))
+
+  pub left_graph : left_over p ≡ left_over its
+  unfolding left_over
+  left_graph = rw (order_graph, graph_tasks (tasks p) p.sources p.targets)
 
 -- some task is left over
-pub left_over_lem : (n m : ℕ) (s t : List ℕ) (taken : ℕ) → taken ≡ length (list_order (graph_of n m s t)) → left_over (graph_of n m s t) ≡ ltb taken n
+pub left_over_lem : (n : ℕ) (s t : List ℕ) → left_over (graph_of n s t) ≡ ltb (length (list_order (graph_of n s t))) n
 unfolding left_over
-left_over_lem n m s t taken e = rw (← e, graph_tasks n m s t)
+left_over_lem n s t = rw (graph_tasks n s t)
 
-pub left_graph : (p : Plan) (s t : List ℕ) → p.sources ≡ take (edges p) s → p.targets ≡ take (edges p) t
-    → left_over p ≡ left_over (graph_of (tasks p) (edges p) s t)
-unfolding left_over
-left_graph p s t es et = rw (order_graph p s t es et, graph_tasks (tasks p) (edges p) s t)
+-- where the first edge from task i or from a task above it stands
+pub parts_at : (n : ℕ) (s t : List ℕ) → Edges n s t → (i e : ℕ) → e ≤ length s → IsPartitionPoint (λ x. ltb x i ≡ true) (λ x. ltb x i ≡ false) s e → Parts s i e e
+parts_at n s t ok i e h p = record { within = h; below = λ k l. ltb-true (at s k) i (p.0 k 0 (omega arith) l); above = λ k a b. ltb-false (at s k) i (p.1 k 0 a b) }

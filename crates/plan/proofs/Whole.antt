@@ -2,14 +2,14 @@
 use mathlib.Core.Path.{◌≡◌, refl, sym, ap, subst, ◌∙◌}
 use mathlib.Core.Bool.{false}
 use mathlib.Core.List.{List}
-use Prim.Native.Nat.{ℕ, ◌+◌, ◌≤◌, ◌<◌}
+use Prim.Native.Nat.{ℕ, ◌≤◌, ◌<◌}
 use native.Mathlib.Omega.{arith}
 use lib.ListN.{length, drop, take, replicate, length-replicate, get_or-append}
 use lib.Seq.{take-append_seam}
 use Rattle.model.specs.Below.{at}
 use Rattle.model.specs.Refusals.{refusal, refuse_if, Check}
 use Rattle.model.specs.Field.{plan_step, Step}
-use Rattle.model.specs.Plan.{Plan, tasks, edges, source, target, reading_of, tasks as tasks_of, edges as edges_of}
+use Rattle.model.specs.Plan.{Plan, tasks, edges, reading_of, tasks as tasks_of, edges as edges_of}
 use Rattle.model.specs.Graph.{list_order, left_over, plan_of}
 use Rattle.model.specs.declared.Fault.TheVariants.{Cyclic}
 use Rattle.model.specs.declared.Side.TheVariants.{OfPlan}
@@ -18,9 +18,7 @@ use Rattle.model.proofs.Refusals.{or_good, not_refused}
 use Rattle.model.proofs.Graph.{order_length}
 use Rattle.model.proofs.Plan.{Read, plan_valid}
 use Rattle.plan.specs.Order.{graph_of, Edges}
-use Rattle.plan.specs.Planned.{parsed_by, filled, order_by, columns_of, plan_check, plan_read, Sized}
-use Rattle.plan.specs.declared.Parsed.{Parsed}
-use Rattle.plan.specs.declared.Shape.{Shape}
+use Rattle.plan.specs.Planned.{filled, order_by, columns_of, plan_check, plan_read, Sized}
 use Rattle.plan.specs.declared.Columns.{Columns}
 use Rattle.plan.specs.declared.PlanRead.{PlanRead}
 use Rattle.plan.proofs.Fields.{filled_front, filled_length}
@@ -37,157 +35,73 @@ filled_take front l n e h = rw (e, filled_front front l h) (take-append_seam fro
 zeros : (n : ℕ) → length (replicate {A = ℕ} n 0) ≡ n
 zeros n = length-replicate n 0
 
-module _ (bytes : List ℕ) (parsed : Parsed) (costs sources targets amounts : List ℕ) (e : parsed ≡ parsed_by (reading_of bytes))
-    (ec : costs ≡ filled (reading_of bytes).plan.costs (replicate 64 0))
-    (es : sources ≡ filled (reading_of bytes).plan.sources (replicate 256 0))
-    (et : targets ≡ filled (reading_of bytes).plan.targets (replicate 256 0))
-    (ea : amounts ≡ filled (reading_of bytes).plan.amounts (replicate 256 0)) where
+-- the columns hold the fields that were read, and no list order yet
+module _ (bytes : List ℕ) (c : Columns) (e : c ≡ columns_of (reading_of bytes).plan (replicate 64 0)) where
   abbrev p : Plan
   p = (reading_of bytes).plan
 
-  checked : parsed.check ≡ (reading_of bytes).check
-  checked = ap (λ (x : Parsed). x.check) e
-
-  shaped : parsed.shape ≡ (parsed_by (reading_of bytes)).shape
-  shaped = ap (λ (x : Parsed). x.shape) e
-
-  -- all parts in place
-  whole : (check : Check) (order : List ℕ) → check ≡ plan_check bytes → order ≡ order_by p (reading_of bytes).check
-      → (record {
-        check = check;
-        columns =
-            record {
-              bus = parsed.shape.bus;
-              tasks = parsed.shape.tasks;
-              edges = parsed.shape.edges;
-              costs = costs;
-              order = order;
-              sources = sources;
-              targets = targets;
-              amounts = amounts;
-            };
-      }) ≡ plan_read bytes
-  unfolding plan_read columns_of
-  whole check order q o =
-      λ i.
-      record {
-        check = q i;
-        columns =
-            record {
-              bus = (shaped i).bus;
-              tasks = (shaped i).tasks;
-              edges = (shaped i).edges;
-              costs = ec i;
-              order = o i;
-              sources = es i;
-              targets = et i;
-              amounts = ea i;
-            };
-      }
-
   -- a field was refused
-  pub fields_bad : {r : Refusal} → parsed.check ≡ Err r → (record {
-    check = Err r;
-    columns =
-        record {
-          bus = parsed.shape.bus;
-          tasks = parsed.shape.tasks;
-          edges = parsed.shape.edges;
-          costs = costs;
-          order = replicate 64 0;
-          sources = sources;
-          targets = targets;
-          amounts = amounts;
-        };
-  }) ≡ plan_read bytes
-  unfolding plan_check
-  fields_bad {r} b =
-      let q : (reading_of bytes).check ≡ Err r = sym checked ∙ b in
-      whole (Err r) (replicate 64 0) (rw q) (rw q)
+  pub read_bad : {r : Refusal} → Err r ≡ (reading_of bytes).check → (record { check = Err r; columns = c }) ≡ plan_read bytes
+  unfolding plan_read plan_check
+  read_bad {r} b = rw (e, ← b)
 
-  module _ (g : parsed.check ≡ (Ok tt)) where
-    good : (reading_of bytes).check ≡ Ok tt
-    good = sym checked ∙ g
-
+  module _ (good : Ok tt ≡ (reading_of bytes).check) where
     facts : Read bytes p
-    facts = plan_valid bytes good
+    facts = plan_valid bytes (sym good)
+
+    pub read_few : c.edges ≤ 256
+    unfolding columns_of
+    read_few = rw e facts.valid.ranges.few_edges
+
+    sources_take : take c.edges c.sources ≡ p.sources
+    unfolding columns_of
+    sources_take = rw e (filled_take p.sources (replicate 256 0) (edges p) refl (omega (arith, facts.valid.ranges.few_edges, zeros 256)))
+
+    targets_take : take c.edges c.targets ≡ p.targets
+    unfolding columns_of
+    targets_take =
+        let all = facts.valid.ranges.targets_all in
+        rw e (filled_take p.targets (replicate 256 0) (edges p) (sym all) (omega (arith, facts.valid.ranges.few_edges, all, zeros 256)))
+
+    tasks_is : c.tasks ≡ tasks p
+    unfolding columns_of
+    tasks_is = ap (λ (z : Columns). z.tasks) e
 
     -- what the list order needs of the edges
-    tasks_is : parsed.shape.tasks ≡ tasks p
-    tasks_is = ap (λ (s : Shape). s.tasks) shaped
-
-    edges_is : parsed.shape.edges ≡ edges p
-    edges_is = ap (λ (s : Shape). s.edges) shaped
-
-    source_is : (j : ℕ) → j < edges p → at sources j ≡ source p j
-    source_is j h =
-        ap (λ (l : List ℕ). at l j) es
-        ∙ filled_at p.sources (replicate 256 0) j (omega (arith, facts.valid.ranges.few_edges, zeros 256)) h
-
-    target_is : (j : ℕ) → j < edges p → at targets j ≡ target p j
-    target_is j h =
-        let all = facts.valid.ranges.targets_all in
-        ap (λ (l : List ℕ). at l j) et
-        ∙ filled_at p.targets (replicate 256 0) j (omega (arith, all, facts.valid.ranges.few_edges, zeros 256)) (omega (arith, all))
-
-    pub edges_good : Edges parsed.shape.tasks parsed.shape.edges sources targets
-    edges_good =
+    pub read_edges : Edges c.tasks (take c.edges c.sources) (take c.edges c.targets)
+    read_edges =
         let v = facts.valid.ranges in
-        let n = tasks_is in
-        let m = edges_is in
-        record {
-          few_tasks = omega (arith, v.few_tasks);
-          few_edges = omega (arith, v.few_edges);
-          long = omega (arith, v.few_edges, ap length es, filled_length p.sources (replicate 256 0), zeros 256);
-          sources_low = λ e h. omega (arith, source_is e (omega arith), v.sources_known e (omega arith));
-          targets_low = λ e h. omega (arith, target_is e (omega arith), v.targets_known e (omega arith));
-          rising =
-              λ e h.
-              omega (
-                arith,
-                source_is e (omega arith),
-                target_is e (omega arith),
-                source_is (e + 1) (omega arith),
-                target_is (e + 1) (omega arith),
-                v.rising e (omega arith),
-              );
-        }
+        rw (tasks_is, sources_take, targets_take)
+        (record {
+          few_tasks = v.few_tasks;
+          few_edges = v.few_edges;
+          paired = v.targets_all;
+          sources_low = v.sources_known;
+          targets_low = v.targets_known;
+          rising = v.rising;
+        })
 
-    sources_take : p.sources ≡ take (edges p) sources
-    sources_take = rw es (sym (filled_take p.sources (replicate 256 0) (edges p) refl (omega (arith, facts.valid.ranges.few_edges, zeros 256))))
+    abbrev graph : Plan
+    graph = graph_of c.tasks (take c.edges c.sources) (take c.edges c.targets)
 
-    targets_take : p.targets ≡ take (edges p) targets
-    targets_take =
-        rw et
-        (sym
-        (filled_take p.targets (replicate 256 0) (edges p) (sym facts.valid.ranges.targets_all)
-        (omega (arith, facts.valid.ranges.few_edges, facts.valid.ranges.targets_all, zeros 256))))
+    graph_is : graph ≡ graph_of (tasks p) p.sources p.targets
+    graph_is = λ i. graph_of (tasks_is i) (sources_take i) (targets_take i)
 
     -- all fields are good, and the list order has decided
-    pub fields_good : (check : Check) (order : List ℕ)
-        → check ≡ refuse_if (left_over (graph_of parsed.shape.tasks parsed.shape.edges sources targets)) (refusal Cyclic OfPlan (length bytes))
-        → order ≡ filled (list_order (graph_of parsed.shape.tasks parsed.shape.edges sources targets)) (replicate 64 0)
-        → (record {
-          check = check;
-          columns =
-              record {
-                bus = parsed.shape.bus;
-                tasks = parsed.shape.tasks;
-                edges = parsed.shape.edges;
-                costs = costs;
-                order = order;
-                sources = sources;
-                targets = targets;
-                amounts = amounts;
-              };
-        }) ≡ plan_read bytes
+    checked : (check : Check) → check ≡ refuse_if (left_over graph) (refusal Cyclic OfPlan (length bytes)) → check ≡ plan_check bytes
     unfolding plan_check
-    fields_good check order ck od =
-        let g : graph_of parsed.shape.tasks parsed.shape.edges sources targets ≡ graph_of (tasks p) (edges p) sources targets =
-        λ i. graph_of (tasks_is i) (edges_is i) sources targets in
-        whole check order
-        (rw good (ck ∙ ap (λ (x : Plan). refuse_if (left_over x) (refusal Cyclic OfPlan (length bytes))) g ∙ rw (left_graph p sources targets sources_take targets_take)))
-        (rw good (od ∙ ap (λ (x : Plan). filled (list_order x) (replicate 64 0)) g ∙ rw (order_graph p sources targets sources_take targets_take)))
+    checked check k = k ∙ rw (graph_is, ← left_graph p, ← good)
+
+    listed : record c { order = filled (list_order graph) c.order } ≡ columns_of p (order_by p (reading_of bytes).check)
+    unfolding columns_of
+    listed = rw (graph_is, ← order_graph p, ← good, e)
+
+    pub read_good : (check : Check) (d : Columns)
+        → check ≡ refuse_if (left_over graph) (refusal Cyclic OfPlan (length bytes))
+        → d ≡ record c { order = filled (list_order graph) c.order }
+        → (record { check = check; columns = d }) ≡ plan_read bytes
+    unfolding plan_read
+    read_good check d k q = rw (checked check k, q, listed)
 
 -- ---- for the callers of `read_plan`
 long : (front : List ℕ) (n : ℕ) → n ≡ length (filled front (replicate n 0))

@@ -1,34 +1,29 @@
 -- The list order as code keeps it: a number for each task, 0 once it is taken, else one more than the edges that keep it
 -- waiting. Assumes nothing.
-use Rattle.std.specs.Prelude.{ℕ, ◌+◌, ◌≤◌, ◌<◌, ◌≡◌, false, cond, not, ◌&&◌, List, [], eqb, length, take, replicate}
+use Rattle.std.specs.Prelude.{ℕ, ◌+◌, ◌≤◌, ◌<◌, ◌≡◌, false, cond, not, ◌&&◌, List, [], eqb, length, replicate}
 use Rattle.model.specs.Below.{at, count_below, first_below}
 use Rattle.model.specs.Plan.{Plan, no_plan, key_of}
 use Rattle.model.specs.Graph.{taken}
 
--- n tasks and the first m edges of two columns, as a plan without the rest
-unfoldable pub graph_of : ℕ → ℕ → List ℕ → List ℕ → Plan
-graph_of n m sources targets =
-    record { bus = no_plan.bus; costs = replicate n 0; sources = take m sources; targets = take m targets; amounts = [] }
+-- n tasks and edges between them, as a plan without the rest
+unfoldable pub graph_of : ℕ → List ℕ → List ℕ → Plan
+graph_of n sources targets =
+    record { bus = no_plan.bus; costs = replicate n 0; sources = sources; targets = targets; amounts = [] }
 
 -- what holds of them where their plan was read
-pub record Edges (n m : ℕ) (sources targets : List ℕ) : Type 0 where
+pub record Edges (n : ℕ) (sources targets : List ℕ) : Type 0 where
   pub few_tasks : n ≤ 64
-  pub few_edges : m ≤ 256
-  pub long : m ≤ length sources
-  pub sources_low : (e : ℕ) → e < m → at sources e < n
-  pub targets_low : (e : ℕ) → e < m → at targets e < n
-  pub rising : (e : ℕ) → e + 1 < m → key_of (at sources e) (at targets e) < key_of (at sources (e + 1)) (at targets (e + 1))
-
--- so the sources alone rise
-pub record Rising (m : ℕ) (sources : List ℕ) : Type 0 where
-  pub few : m ≤ 256
-  pub up : (d e : ℕ) → d ≤ e → e < m → at sources d ≤ at sources e
+  pub few_edges : length sources ≤ 256
+  pub paired : length targets ≡ length sources
+  pub sources_low : (e : ℕ) → e < length sources → at sources e < n
+  pub targets_low : (e : ℕ) → e < length sources → at targets e < n
+  pub rising : (e : ℕ) → e + 1 < length sources → key_of (at sources e) (at targets e) < key_of (at sources (e + 1)) (at targets (e + 1))
 
 -- the edges before `low` are from tasks below i, those from `high` on are not
-pub record Parts (m : ℕ) (sources : List ℕ) (i low high : ℕ) : Type 0 where
-  pub within : high ≤ m
+pub record Parts (sources : List ℕ) (i low high : ℕ) : Type 0 where
+  pub within : high ≤ length sources
   pub below : (e : ℕ) → e < low → at sources e < i
-  pub above : (e : ℕ) → high ≤ e → e < m → i ≤ at sources e
+  pub above : (e : ℕ) → high ≤ e → e < length sources → i ≤ at sources e
 
 -- how many of the first m edges end at task j, and how many of them are from task i
 unfoldable pub edges_to : ℕ → List ℕ → ℕ → ℕ

@@ -1,24 +1,18 @@
 -- What the plan reader gives: the refusal, if there is one, and the columns of the plan; of a plan that is refused at a field,
 -- what was read before it.
 -- Assumes nothing.
-use Rattle.std.specs.Prelude.{◌≡◌, ℕ, ◌+◌, true, List, length, replicate, Ok, Err}
+use Rattle.std.specs.Prelude.{◌≡◌, ℕ, ◌+◌, ◌<◌, true, List, length, replicate, set, Ok, Err}
 use Rattle.std.proofs.lemmas.List.Edits.{sets}
 use Rattle.model.specs.Refusals.{refusal, refuse_if, or_else, Check}
-use Rattle.model.specs.Plan.{Plan, Reading, tasks, edges, key_of, reading_of}
+use Rattle.model.specs.Plan.{Plan, tasks, edges, key_of, reading_of}
 use Rattle.model.specs.Graph.{left_over, list_order}
 use Rattle.model.specs.declared.Fault.TheVariants.{Cyclic}
 use Rattle.model.specs.declared.Side.TheVariants.{OfPlan}
 use Rattle.model.specs.declared.Seen.{Seen}
-use Rattle.plan.specs.declared.Shape.{Shape}
-use Rattle.plan.specs.declared.Parsed.{Parsed}
+use Rattle.model.specs.declared.Taken.{Taken}
+use Rattle.model.specs.declared.Taken.TheVariants.{Header, Task, Edge}
 use Rattle.plan.specs.declared.Columns.{Columns}
 use Rattle.plan.specs.declared.PlanRead.{PlanRead}
-
-abbrev pub shape_of : Plan → Shape
-shape_of p = record { bus = p.bus; tasks = tasks p; edges = edges p }
-
-abbrev pub parsed_by : Reading → Parsed
-parsed_by r = record { check = r.check; shape = shape_of r.plan }
 
 -- a column with new entries stored at its front
 unfoldable pub filled : List ℕ → List ℕ → List ℕ
@@ -56,15 +50,29 @@ plan_read bytes =
     }
 
 -- what is known behind the header, behind a task, behind an edge
-abbrev pub after_header : Seen → ℕ → Seen
-after_header s next = record { at = next; started = true; tasks = s.tasks; edges = s.edges; least = s.least }
-
-abbrev pub after_task : Seen → ℕ → Seen
-after_task s next = record { at = next; started = s.started; tasks = s.tasks + 1; edges = s.edges; least = s.least }
-
-abbrev pub after_edge : Seen → ℕ → ℕ → ℕ → Seen
-after_edge s from to next =
+abbrev pub after : Seen → Taken → Seen
+after s (Header b next) = record { at = next; started = true; tasks = s.tasks; edges = s.edges; least = s.least }
+after s (Task c next) = record { at = next; started = s.started; tasks = s.tasks + 1; edges = s.edges; least = s.least }
+after s (Edge from to words next) =
     record { at = next; started = s.started; tasks = s.tasks; edges = s.edges + 1; least = key_of from to + 1 }
+
+-- n tasks and m edges leave room for what a field gives
+abbrev pub Room : ℕ → ℕ → Taken → Type 0
+Room n m (Header b next) = Unit {0}
+Room n m (Task c next) = n < 64
+Room n m (Edge from to words next) = m < 256
+
+-- the columns with what a field gives
+abbrev pub kept : Columns → Taken → Columns
+kept c (Header b next) = record c { bus = b }
+kept c (Task cost next) = record c { tasks = c.tasks + 1; costs = set c.costs c.tasks cost }
+kept c (Edge from to words next) =
+    record c {
+      edges = c.edges + 1;
+      sources = set c.sources c.edges from;
+      targets = set c.targets c.edges to;
+      amounts = set c.amounts c.edges words;
+    }
 
 -- the columns are as long as their arrays
 pub record Sized (c : Columns) : Type 0 where
