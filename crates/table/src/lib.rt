@@ -146,6 +146,7 @@ fn values_check(cores: u32, place: usize, row: Row) -> Result<(), Refusal>
 }
 
 // Task i's field: 9 if none remains, 1, 2, 3, 1, then its values.
+#[tactic(auto, using(crate::proofs::Checks::row_whole), unfolding(model::specs::Table::row_at))]
 fn row_check(cores: u32, s: &[u8], i: usize) -> Result<(), Refusal>
     requires { i < 64 }
     ensures { result ≡ row_at cores s.now i }
@@ -283,13 +284,12 @@ pub fn short_output() -> Refusal
 }
 
 // The table reader: plan and table bytes to 5n numbers at the front of a lent list.
+#[tactic(auto, using(model::proofs::ReadBack::rows_length), unfolding(model::specs::Answers::decoded_of, model::specs::Answers::decoded_output, model::specs::Answers::decoding, model::specs::Answers::room, model::specs::Table::table_of))]
 pub fn read(plan: &[u8], table: &[u8], out: &mut [u32]) -> Result<(), Refusal>
     ensures answer { result ≡ decoded_of plan.now table.now out.old }
     ensures output { out.new ≡ decoded_output plan.now table.now out.old }
 {
-    let read = plan::read_plan(plan);
-    read.check?;
-    let columns = read.columns;
+    let columns = plan::read(plan)?;
     let tasks = columns.tasks;
     table_check(columns.bus.cores, tasks, table)?;
     model::refuse_if(out.len() < 5 * tasks, short_output())?;
@@ -298,13 +298,12 @@ pub fn read(plan: &[u8], table: &[u8], out: &mut [u32]) -> Result<(), Refusal>
 }
 
 // The writer of given table values: plan bytes and 5n numbers to 20n bytes at the front of a lent output.
+#[tactic(auto, unfolding(model::specs::Answers::written_of, model::specs::Answers::written_output, model::specs::Answers::writing, model::specs::Answers::room))]
 pub fn write(plan: &[u8], table: &[u32], out: &mut [u8]) -> Result<(), Refusal>
     ensures answer { result ≡ written_of plan.now table.now out.old }
     ensures output { out.new ≡ written_output plan.now table.now out.old }
 {
-    let read = plan::read_plan(plan);
-    read.check?;
-    let columns = read.columns;
+    let columns = plan::read(plan)?;
     let tasks = columns.tasks;
     numbers_check(columns.bus.cores, tasks, table)?;
     model::refuse_if(out.len() < 20 * tasks, short_output())?;

@@ -1,7 +1,6 @@
 -- `table::givens_good` meets its contract. A loop over a check.
 use Rattle.model.specs.Table.{of_numbers, values_at}
 use Rattle.model.specs.Refusals.{first_bad}
-use Prim.Native.Nat.{◌≤◌, ◌-◌}
 use mathlib.Core.Path.{◌≡◌}
 use Rattle.table.proofs.givens_good.Given as goal
 use Rattle.std.specs.Prelude.{Ok}

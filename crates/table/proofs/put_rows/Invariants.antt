@@ -1,8 +1,6 @@
 -- `table::put_rows` meets its contract. One row more each turn.
 use Rattle.model.specs.Table.{of_numbers, bytes_at}
 use Rattle.model.specs.Below.{append_below, stored}
-use lib.ListN.{length}
-use Prim.Native.Nat.{◌≤◌, ◌-◌}
 use mathlib.Core.Path.{◌≡◌}
 use Rattle.table.proofs.put_rows.Given as goal
 

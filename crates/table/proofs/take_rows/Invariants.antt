@@ -1,8 +1,6 @@
 -- `table::take_rows` meets its contract. One row more each turn.
 use Rattle.model.specs.Table.{of_bytes, numbers_at}
 use Rattle.model.specs.Below.{append_below, stored}
-use lib.ListN.{length}
-use Prim.Native.Nat.{◌≤◌, ◌-◌}
 use mathlib.Core.Path.{◌≡◌}
 use Rattle.table.proofs.take_rows.Given as goal
 
