@@ -6,6 +6,7 @@ use Prim.Native.Nat.{ℕ, ◌*◌, ◌≤◌, ◌<◌}
 use lib.ListN.{length, drop}
 use borrow.Author.Tests.{lt-ltb, le-ltb, ne_eqb, eq-eqb, eqb-true, not-false, leb-false}
 use lib.Dec.{eqb, leb}
+use Rattle.model.specs.Below.{at}
 use Rattle.model.specs.Refusals.{refusal, refuse_if, first_bad, Check}
 use Rattle.model.specs.Plan.{Plan, tasks, cores}
 use Rattle.model.specs.Graph.{plan_of}
