@@ -82,12 +82,12 @@ module _ (sources targets : List ℕ) (i : ℕ) where
   between_more e t q p j = rw (join_step, q, eq-eqb (at sources e) i p)
 
   -- none before the first edge from i
-  before_none : (e : ℕ) → Parts sources i e e → (j : ℕ) → edges_between e sources targets i j ≡ 0
+  before_none : (e : ℕ) → Parts sources i e → (j : ℕ) → edges_between e sources targets i j ≡ 0
   unfolding edges_between
   before_none e w j =
       sum_zero _ e (λ k h. ap bit (ap (λ (b : Bool). b && eqb (at targets k) j) (ne_eqb (at sources k) i (λ q. omega (arith, w.below k h)))))
 
-  pub released_none : (e : ℕ) → Parts sources i e e → (l : List ℕ) → Released e sources targets i l l i
+  pub released_none : (e : ℕ) → Parts sources i e → (l : List ℕ) → Released e sources targets i l l i
   released_none e w l =
       record { lowered = raised_none _ l (before_none e w); least = omega arith; clear = λ k h. before_none e w k }
 

@@ -17,8 +17,8 @@ use Rattle.model.specs.declared.Refusal.{Refusal}
 use Rattle.model.proofs.Refusals.{or_good, not_refused}
 use Rattle.model.proofs.Graph.{order_length}
 use Rattle.model.proofs.Plan.{Read, plan_valid}
-use Rattle.plan.specs.Order.{graph_of, Edges}
-use Rattle.plan.specs.Planned.{filled, order_by, columns_of, plan_check, plan_read, Sized}
+use Rattle.plan.specs.Order.{graph_of}
+use Rattle.plan.specs.Planned.{filled, graph_in, EdgesIn, order_by, columns_of, plan_check, plan_read, Sized}
 use Rattle.plan.specs.declared.Columns.{Columns}
 use Rattle.plan.specs.declared.PlanRead.{PlanRead}
 use Rattle.plan.proofs.Fields.{filled_front, filled_length}
@@ -68,7 +68,7 @@ module _ (bytes : List ℕ) (c : Columns) (e : c ≡ columns_of (reading_of byte
     tasks_is = ap (λ (z : Columns). z.tasks) e
 
     -- what the list order needs of the edges
-    pub read_edges : Edges c.tasks (take c.edges c.sources) (take c.edges c.targets)
+    pub read_edges : EdgesIn c
     read_edges =
         let v = facts.valid.ranges in
         rw (tasks_is, sources_take, targets_take)
@@ -81,24 +81,21 @@ module _ (bytes : List ℕ) (c : Columns) (e : c ≡ columns_of (reading_of byte
           rising = v.rising;
         })
 
-    abbrev graph : Plan
-    graph = graph_of c.tasks (take c.edges c.sources) (take c.edges c.targets)
-
-    graph_is : graph ≡ graph_of (tasks p) p.sources p.targets
+    graph_is : graph_in c ≡ graph_of (tasks p) p.sources p.targets
     graph_is = λ i. graph_of (tasks_is i) (sources_take i) (targets_take i)
 
     -- all fields are good, and the list order has decided
-    checked : (check : Check) → check ≡ refuse_if (left_over graph) (refusal Cyclic OfPlan (length bytes)) → check ≡ plan_check bytes
+    checked : (check : Check) → check ≡ refuse_if (left_over (graph_in c)) (refusal Cyclic OfPlan (length bytes)) → check ≡ plan_check bytes
     unfolding plan_check
     checked check k = k ∙ rw (graph_is, ← left_graph p, ← good)
 
-    listed : record c { order = filled (list_order graph) c.order } ≡ columns_of p (order_by p (reading_of bytes).check)
+    listed : record c { order = filled (list_order (graph_in c)) c.order } ≡ columns_of p (order_by p (reading_of bytes).check)
     unfolding columns_of
     listed = rw (graph_is, ← order_graph p, ← good, e)
 
     pub read_good : (check : Check) (d : Columns)
-        → check ≡ refuse_if (left_over graph) (refusal Cyclic OfPlan (length bytes))
-        → d ≡ record c { order = filled (list_order graph) c.order }
+        → check ≡ refuse_if (left_over (graph_in c)) (refusal Cyclic OfPlan (length bytes))
+        → d ≡ record c { order = filled (list_order (graph_in c)) c.order }
         → (record { check = check; columns = d }) ≡ plan_read bytes
     unfolding plan_read
     read_good check d k q = rw (checked check k, q, listed)
