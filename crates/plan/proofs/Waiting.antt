@@ -271,7 +271,7 @@ module _ (n : ℕ) (s t : List ℕ) (ok : Edges n s t) (order₀ order left : Li
         record {
           within = omega arith;
           long = ap length one ∙ omega (arith, snoc_length (listed g r) i, w.long);
-          ordered = rw one (filled_more (listed g r) order₀ order r i w.ordered (sym w.long));
+          ordered = rw (one, w.ordered) (filled_more (listed g r) order₀ r i (sym w.long));
           kept = rw one (kept_next n s t ok (listed g r) left w.kept i ei hi mid k);
         }
 
