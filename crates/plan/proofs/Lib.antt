@@ -2,3 +2,4 @@ pub mod Fields
 pub mod Counted
 pub mod Waiting
 pub mod Whole
+pub mod Holding

@@ -1,11 +1,11 @@
 -- What the plan reader gives: the refusal, if there is one, and the columns of the plan; of a plan that is refused at a field,
 -- what was read before it.
 -- Assumes nothing.
-use Rattle.std.specs.Prelude.{◌≡◌, ℕ, ◌+◌, ◌<◌, true, List, length, replicate, set, take, Ok, Err}
+use Rattle.std.specs.Prelude.{◌≡◌, ℕ, ◌+◌, ◌<◌, ◌≤◌, true, false, List, length, take, replicate, set, Ok, Err}
 use Rattle.std.proofs.lemmas.List.Edits.{sets}
-use Rattle.model.specs.Refusals.{refusal, refuse_if, or_else, Check}
-use Rattle.model.specs.Plan.{Plan, tasks, edges, key_of, reading_of}
-use Rattle.model.specs.Graph.{left_over, list_order}
+use Rattle.model.specs.Refusals.{refusal, refuse_if, or_else, passing, Outcome, Check}
+use Rattle.model.specs.Plan.{Plan, Valid, tasks, edges, key_of, reading_of}
+use Rattle.model.specs.Graph.{left_over, list_order, plan_of}
 use Rattle.model.specs.declared.Fault.TheVariants.{Cyclic}
 use Rattle.model.specs.declared.Side.TheVariants.{OfPlan}
 use Rattle.model.specs.declared.Seen.{Seen}
@@ -89,3 +89,23 @@ pub record Sized (c : Columns) : Type 0 where
   pub sources : 256 ≡ length c.sources
   pub targets : 256 ≡ length c.targets
   pub amounts : 256 ≡ length c.amounts
+
+-- what holds of the columns of bytes that are a plan: of the plan p that they are, each column's front
+pub record Holds (bytes : List ℕ) (c : Columns) (p : Plan) : Type 0 where
+  pub is : plan_of bytes ≡ Ok p
+  pub valid : Valid p
+  pub full : left_over p ≡ false
+  pub few_tasks : c.tasks ≤ 64
+  pub few_edges : c.edges ≤ 256
+  pub bus : c.bus ≡ p.bus
+  pub tasks : c.tasks ≡ tasks p
+  pub edges : c.edges ≡ edges p
+  pub costs : take c.tasks c.costs ≡ p.costs
+  pub order : take c.tasks c.order ≡ list_order p
+  pub sources : take c.edges c.sources ≡ p.sources
+  pub targets : take c.edges c.targets ≡ p.targets
+  pub amounts : take c.edges c.amounts ≡ p.amounts
+
+-- the columns of bytes that are a plan, or the first refusal
+abbrev pub columns_read : List ℕ → Outcome Columns
+columns_read bytes = passing (plan_read bytes).check (plan_read bytes).columns

@@ -1,13 +1,13 @@
 // The plan reader: one step over the fields, the parser over it, the list order and the cycle test.
 #![tactic(auto)]
 
-ghost use Rattle.std.specs.Prelude.{◌≡◌, ℕ, ◌+◌, ◌<◌, ◌≤◌, ◌≢◌, length, replicate, MatchOption};
+ghost use Rattle.std.specs.Prelude.{◌≡◌, ℕ, ◌+◌, ◌<◌, ◌≤◌, ◌≢◌, length, replicate, MatchOption, MatchResult};
 ghost use Rattle.model.specs.Below.{at};
 ghost use Rattle.model.specs.Field.{two, plan_body, body_of, step_in, plan_step, place_after};
 ghost use Rattle.model.specs.Plan.{no_plan, key_of, settings_good, in_order, header_in, task_in, edge_in, tagged, field_by, field_of, reading_of};
 ghost use Rattle.model.specs.Refusals.{refusal, refuse_if};
-ghost use Rattle.model.specs.Graph.{left_over, list_order};
-ghost use Rattle.plan.specs.Planned.{filled, columns_of, plan_read, after, kept, Room, graph_in, EdgesIn};
+ghost use Rattle.model.specs.Graph.{left_over, list_order, plan_of};
+ghost use Rattle.plan.specs.Planned.{filled, columns_of, columns_read, plan_read, after, kept, Room, Holds, graph_in, EdgesIn};
 
 mod graph;
 
@@ -429,4 +429,15 @@ pub fn read_plan(plan: &[u8]) -> PlanRead
     let mut columns = Columns::new();
     let check = columns.read(plan);
     PlanRead { check, columns }
+}
+
+// The columns of bytes that are a plan, or the first refusal.
+#[tactic(auto, using(crate::proofs::Whole::plan_refused))]
+pub fn read(plan: &[u8]) -> Result<Columns, Refusal>
+    ensures value { result ≡ columns_read plan.now }
+    ensures planned { MatchResult result (λ columns. Holds plan.now columns (reading_of plan.now).plan) (λ refusal. plan_of plan.now ≡ Err refusal) }
+{
+    let read = read_plan(plan);
+    read.check?;
+    Ok(read.columns)
 }

@@ -1,13 +1,9 @@
 -- `contention::fill_tops` meets its contract. The greatest close passed, and the tops passed are in place.
-use Rattle.model.specs.Below.{at, max_below, list_below}
 use lib.ListN.{drop}
 use mathlib.Core.List.{◌++◌}
-use Prim.Native.Nat.{◌-◌, ◌≤◌}
 use mathlib.Core.Path.{◌≡◌}
+use Rattle.model.specs.Below.{at, max_below, list_below}
 use Rattle.contention.proofs.fill_tops.Given as goal
 
 abbrev pub invariant-loop-y : goal.invariant-loop-y
-invariant-loop-y l = (l.y ≤ l.count) × (l.most ≡ max_below (at l.closes) l.y) × (l.tops ≡ list_below (max_below (at l.closes)) l.y ++ drop l.y l.initial.tops)
-
-abbrev pub decreases-loop-y : goal.decreases-loop-y
-decreases-loop-y l = l.count - l.y
+invariant-loop-y l = (l.most ≡ max_below (at l.closes) l.y) × (l.tops ≡ list_below (max_below (at l.closes)) l.y ++ drop l.y l.initial.tops)

@@ -1,13 +1,8 @@
 -- `table::put_rows` meets its contract. One row more each turn.
 use Rattle.model.specs.Table.{of_numbers, bytes_at}
 use Rattle.model.specs.Below.{append_below, stored}
-use lib.ListN.{length}
-use Prim.Native.Nat.{◌≤◌, ◌-◌}
 use mathlib.Core.Path.{◌≡◌}
 use Rattle.table.proofs.put_rows.Given as goal
 
 abbrev pub invariant-loop-i : goal.invariant-loop-i
-invariant-loop-i l = (l.i ≤ l.tasks) × (length l.out ≡ length l.initial.out) × (l.out ≡ stored l.initial.out 0 (append_below (bytes_at (of_numbers l.table)) l.i))
-
-abbrev pub decreases-loop-i : goal.decreases-loop-i
-decreases-loop-i l = l.tasks - l.i
+invariant-loop-i l = l.out ≡ stored l.initial.out 0 (append_below (bytes_at (of_numbers l.table)) l.i)

@@ -1,0 +1,16 @@
+-- `contention::reach::Reach::rivals` meets its contract. Nothing outside of the range looked at is a rival.
+use Rattle.model.specs.Below.{at}
+use Rattle.contention.proofs.Ranges.{back_le, rivals_between}
+use native.Mathlib.Omega.{arith}
+use Rattle.contention.proofs.reach.Reach.rivals.Goals as goal
+
+pub near_between-n-requires-clause-ordered : goal.near_between-n-requires-clause-ordered
+near_between-n-requires-clause-ordered c =
+    let r = c.args.self.now in
+    omega (arith, c.back_to-lo.ensures, c.ahead_to-hi.ensures.from, back_le r.tops.now (at r.phases.start.now c.args.x) c.args.x)
+
+pub returns : goal.returns
+returns c =
+    let r = c.args.self.now in
+    let n = rivals_between _ _ _ _ _ _ _ _ c.args.x r.spread c.requires.phase c.requires.loaded _ _ _ c.back_to-lo.ensures c.ahead_to-hi.ensures.within c.ahead_to-hi.ensures.here c.near_between-n.ensures in
+    omega (arith, n, c.min.ensures)
