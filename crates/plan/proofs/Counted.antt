@@ -8,6 +8,7 @@ use native.Mathlib.Omega.{arith}
 use lib.Dec.{eqb}
 use lib.ListN.{length, set, length-set}
 use lib.Seq.{get_or-set_same, get_or-set_other}
+use Rattle.std.proofs.lemmas.Grind.{common_steps}
 use borrow.Author.Tests.{eq-eqb, ne_eqb}
 use Rattle.model.specs.Below.{join_below, at, bit, count_below}
 use Rattle.model.proofs.Tests.{lt_or_ge, same_or_not}
@@ -35,22 +36,14 @@ module _ (f g : ℕ → ℕ) (a b : List ℕ) (r : Raised f a b) (t : ℕ) (s : 
   raised_up h =
       record {
         long = simp length-set r.long;
-        each =
-            λ j.
-            same_or_not j t
-            (λ q. rw (q, get_or-set_same b t (at b t + 1) 0 h) (omega (arith, r.each t, s t, ap bit (eq-eqb t t refl))))
-            (λ d. rw (get_or-set_other b t j (at b t + 1) 0 d) (omega (arith, r.each j, s j, ap bit (ne_eqb t j (λ q. d (sym q))))));
+        each = λ j. grind (arith, common_steps, r.each j, s j);
       }
 
   raised_down : t < length a → 1 ≤ at a t → Raised g (set a t (at a t - 1)) b
   raised_down h p =
       record {
         long = simp length-set r.long;
-        each =
-            λ j.
-            same_or_not j t
-            (λ q. rw (q, get_or-set_same a t (at a t - 1) 0 h) (omega (arith, r.each t, s t, ap bit (eq-eqb t t refl))))
-            (λ d. rw (get_or-set_other a t j (at a t - 1) 0 d) (omega (arith, r.each j, s j, ap bit (ne_eqb t j (λ q. d (sym q))))));
+        each = λ j. grind (arith, common_steps, r.each j, s j);
       }
 
 -- ---- the loop of `waiting`, at edge e
@@ -82,31 +75,34 @@ module _ (sources targets : List ℕ) (i : ℕ) where
   between_more e t q p j = rw (join_step, q, eq-eqb (at sources e) i p)
 
   -- none before the first edge from i
-  before_none : (e : ℕ) → Parts sources i e e → (j : ℕ) → edges_between e sources targets i j ≡ 0
+  before_none : (e : ℕ) → Parts sources i e → (j : ℕ) → edges_between e sources targets i j ≡ 0
   unfolding edges_between
   before_none e w j =
       sum_zero _ e (λ k h. ap bit (ap (λ (b : Bool). b && eqb (at targets k) j) (ne_eqb (at sources k) i (λ q. omega (arith, w.below k h)))))
 
-  pub released_none : (e : ℕ) → Parts sources i e e → (l : List ℕ) → Released e sources targets i l l i
+  pub released_none : (e : ℕ) → Parts sources i e → (l : List ℕ) → Released e sources targets i l l i
   released_none e w l =
       record { lowered = raised_none _ l (before_none e w); least = omega arith; clear = λ k h. before_none e w k }
 
   module _ (m e : ℕ) (l₀ l : List ℕ) (low : ℕ) (within : e ≤ m) (r : Released e sources targets i l₀ l low) where
-    module _ (t : ℕ) (p : at sources e ≡ i) (q : t ≡ at targets e) (h : e < m) where
+    module _ (t from : ℕ) (h : e < m) (up : (k : ℕ) → e ≤ k → k < m → i ≤ at sources k) (ef : from ≡ at sources e) (no_more : from ≤ i)
+        (q : t ≡ at targets e) (room : (j : ℕ) → edges_between m sources targets i j ≤ at l₀ j) where
+      from_here : at sources e ≡ i
+      from_here = omega (arith, up e (omega arith) h)
+
       between_longer : (j : ℕ) → edges_between (e + 1) sources targets i j ≤ edges_between m sources targets i j
       unfolding edges_between
       between_longer j = sum_longer (λ k. bit (eqb (at sources k) i && eqb (at targets k) j)) (e + 1) m (omega arith)
 
-      pub released_some : ((j : ℕ) → edges_between m sources targets i j ≤ at l₀ j) → 1 ≤ at l t
-      released_some room = omega (arith, r.lowered.each t, room t, between_more e t q p t, ap bit (eq-eqb t t refl), between_longer t)
+      pub released_some : 1 ≤ at l t
+      released_some = omega (arith, r.lowered.each t, room t, between_more e t q from_here t, ap bit (eq-eqb t t refl), between_longer t)
 
-      pub released_next : t < length l → 1 ≤ at l t → (low' : ℕ) → low' ≡ min low t
-          → Released (e + 1) sources targets i l₀ (set l t (at l t - 1)) low'
-      released_next k s low' x =
+      pub released_next : t < length l → (low' : ℕ) → low' ≡ min low t → Released (e + 1) sources targets i l₀ (set l t (at l t - 1)) low'
+      released_next k low' x =
           record {
-            lowered = raised_down _ _ l l₀ r.lowered t (between_more e t q p) k s;
+            lowered = raised_down _ _ l l₀ r.lowered t (between_more e t q from_here) k released_some;
             least = omega (arith, r.least);
-            clear = λ j b. omega (arith, between_more e t q p j, r.clear j (omega arith), ap bit (ne_eqb t j (λ y. omega arith)));
+            clear = λ j b. omega (arith, between_more e t q from_here j, r.clear j (omega arith), ap bit (ne_eqb t j (λ y. omega arith)));
           }
 
     -- none from e on

@@ -5,15 +5,14 @@ use mathlib.Core.List.{List, [], ◌∷◌, ◌++◌}
 use Prim.Native.Nat.{ℕ, suc, ◌+◌, ◌-◌, ◌≤◌, ◌<◌}
 use native.Mathlib.Nat.{add-zero, zero-add}
 use native.Mathlib.Omega.{arith}
-use lib.Dec.{eqb}
+use lib.Dec.{ltb}
 use lib.ListN.{length, set, drop, replicate}
 use lib.Seq.{sets, sets-eq, length-sets}
 use borrow.Author.Tests.{lt-ltb, ne_eqb}
 use Rattle.std.specs.Prelude.{Option, Some, None, Ok, Err}
 use Rattle.model.specs.Field.{plan_step, Step}
-use Rattle.model.specs.Plan.{Plan, Reading, Next, tasks, edges, key_of, field_of, no_plan, with_bus, with_task, with_edge, least_key, on_with, reading_from, reading_of, seen as seen_of}
+use Rattle.model.specs.Plan.{Plan, Reading, Next, tasks, edges, cores, key_of, field_of, no_plan, with_bus, with_task, with_edge, least_key, on_with, reading_from, reading_of, seen as seen_of}
 use Rattle.model.specs.Refusals.{Check}
-use Rattle.model.specs.declared.Bus.{Bus}
 use Rattle.model.specs.declared.Field.{Field}
 use Rattle.model.specs.declared.Refusal.{Refusal}
 use Rattle.model.specs.declared.Seen.{Seen}
@@ -21,7 +20,7 @@ use Rattle.model.specs.declared.Side.TheVariants.{OfPlan}
 use Rattle.model.specs.declared.Taken.{Taken}
 use Rattle.model.specs.declared.Taken.TheVariants.{Header, Task, Edge}
 use Rattle.model.proofs.FieldLaws.{Whole, whole}
-use Rattle.model.proofs.Plan.{Took, HeaderTaken, TaskTaken, EdgeTaken, took, reading_on, snoc_length, snoc_new, Partly, partly_none, partly_header, partly_task, partly_edge}
+use Rattle.model.proofs.Plan.{Took, took, reading_on, snoc_length, snoc_new, Partly, partly_none, partly_header, partly_task, partly_edge}
 use Rattle.plan.specs.Planned.{filled, columns_of, after, kept, Room}
 use Rattle.plan.specs.declared.Columns.{Columns}
 
@@ -42,9 +41,9 @@ sets_more (y ∷ a) x l i =
     rw e (sets_more a x (set l i y) (suc i))
 
 -- one entry more, stored behind the others
-pub filled_more : (front l column : List ℕ) (i x : ℕ) → column ≡ filled front l → i ≡ length front → set column i x ≡ filled (front ++ (x ∷ [])) l
+pub filled_more : (front l : List ℕ) (i x : ℕ) → i ≡ length front → set (filled front l) i x ≡ filled (front ++ (x ∷ [])) l
 unfolding filled
-filled_more front l column i x e q = rw (e, q, ← zero-add (length front)) (sets_more front x l 0)
+filled_more front l i x q = rw (q, ← zero-add (length front)) (sets_more front x l 0)
 
 -- into a column that is long enough: the new entries, then the rest
 pub filled_front : (front l : List ℕ) → length front ≤ length l → filled front l ≡ front ++ drop (length front) l
@@ -55,49 +54,75 @@ pub filled_length : (front l : List ℕ) → length (filled front l) ≡ length 
 unfolding filled
 filled_length front l = length-sets l 0 front
 
--- ---- what is known of a plan, part by part
-seen_is : (a b : Seen) → a.at ≡ b.at → a.started ≡ b.started → a.tasks ≡ b.tasks → a.edges ≡ b.edges → a.least ≡ b.least → a ≡ b
-seen_is a b p q r s t = λ i. record { at = p i; started = q i; tasks = r i; edges = s i; least = t i }
+-- ---- a plan with what a field gives, and the place behind that field
+abbrev next_of : Taken → ℕ
+next_of (Header b next) = next
+next_of (Task c next) = next
+next_of (Edge from to words next) = next
 
-least_bus : (p : Plan) (b : Bus) → least_key p ≡ least_key (with_bus p b)
-unfolding least_key
-least_bus p b = refl
-
-least_task : (p : Plan) (c : ℕ) → least_key p ≡ least_key (with_task p c)
-unfolding least_key
-least_task p c = refl
+abbrev more : Plan → Taken → Plan
+more p (Header b next) = with_bus p b
+more p (Task c next) = with_task p c
+more p (Edge from to words next) = with_edge p from to words
 
 least_edge : (p : Plan) (from to words : ℕ) → length p.targets ≡ edges p → key_of from to + 1 ≡ least_key (with_edge p from to words)
 unfolding least_key
 least_edge p from to words h =
     let long : length (p.sources ++ (from ∷ [])) ≡ edges p + 1 = snoc_length p.sources from in
-    let some : eqb (length (p.sources ++ (from ∷ []))) 0 ≡ false = ne_eqb (length (p.sources ++ (from ∷ []))) 0 (λ z. omega arith) in
     rw (
-      some,
+      ne_eqb (length (p.sources ++ (from ∷ []))) 0 (λ z. omega arith),
       snoc_new p.sources from (length (p.sources ++ (from ∷ [])) - 1) (omega arith),
       snoc_new p.targets to (length (p.sources ++ (from ∷ [])) - 1) (omega arith),
     )
 
--- ---- the columns with one field more
-module _ (p : Plan) (order : List ℕ) where
-  columns_header : (b : Bus) (next : ℕ) → kept (columns_of p order) (Header b next) ≡ columns_of (with_bus p b) order
-  unfolding columns_of
-  columns_header b next = refl
+module _ (bytes : List ℕ) (place : ℕ) (p : Plan) (w : Partly bytes place p) where
+  abbrev Gave : Taken → Type 0
+  Gave t = Took bytes (seen_of place p) (Ok (Some t))
 
-  columns_task : (c next : ℕ) → kept (columns_of p order) (Task c next) ≡ columns_of (with_task p c) order
-  unfolding columns_of
-  columns_task c next = rw (snoc_length p.costs c, filled_more p.costs (replicate 64 0) (filled p.costs (replicate 64 0)) (tasks p) c refl refl)
+  more_room : (t : Taken) → Gave t → Room (tasks p) (edges p) t
+  more_room (Header b next) g = tt
+  more_room (Task c next) g = g.room
+  more_room (Edge from to words next) g = g.room
 
-  columns_edge : (from to words next : ℕ) → length p.targets ≡ edges p → length p.amounts ≡ edges p
-      → kept (columns_of p order) (Edge from to words next) ≡ columns_of (with_edge p from to words) order
+  more_within : (t : Taken) → Gave t → (place < next_of t) × (next_of t ≤ length bytes)
+  more_within (Header b next) g = (omega (arith, g.behind), g.fits)
+  more_within (Task c next) g = (omega (arith, g.behind), g.fits)
+  more_within (Edge from to words next) g = (omega (arith, g.behind), g.fits)
+
+  more_partly : (t : Taken) → Gave t → Partly bytes (next_of t) (more p t)
+  more_partly (Header b next) g = partly_header bytes place p w b next g
+  more_partly (Task c next) g = partly_task bytes place p w c next g
+  more_partly (Edge from to words next) g = partly_edge bytes place p w from to words next g
+
+  more_seen : (t : Taken) → Gave t → after (seen_of place p) t ≡ seen_of (next_of t) (more p t)
+  unfolding least_key
+  more_seen (Header b next) g = rw (lt-ltb 0 b.cores g.settings.cores_some)
+  more_seen (Task c next) g = rw (snoc_length p.costs c)
+  more_seen (Edge from to words next) g =
+      λ i. record {
+        at = next;
+        started = ltb 0 (cores p);
+        tasks = tasks p;
+        edges = sym (snoc_length p.sources from) i;
+        least = least_edge p from to words w.ranges.targets_all i;
+      }
+
+  more_columns : (order : List ℕ) (t : Taken) → kept (columns_of p order) t ≡ columns_of (more p t) order
   unfolding columns_of
-  columns_edge from to words next et ea =
+  more_columns order (Header b next) = refl
+  more_columns order (Task c next) = rw (snoc_length p.costs c, filled_more p.costs (replicate 64 0) (tasks p) c refl)
+  more_columns order (Edge from to words next) =
       rw (
         snoc_length p.sources from,
-        filled_more p.sources (replicate 256 0) (filled p.sources (replicate 256 0)) (edges p) from refl refl,
-        filled_more p.targets (replicate 256 0) (filled p.targets (replicate 256 0)) (edges p) to refl (sym et),
-        filled_more p.amounts (replicate 256 0) (filled p.amounts (replicate 256 0)) (edges p) words refl (sym ea),
+        filled_more p.sources (replicate 256 0) (edges p) from refl,
+        filled_more p.targets (replicate 256 0) (edges p) to (sym w.ranges.targets_all),
+        filled_more p.amounts (replicate 256 0) (edges p) words (sym w.ranges.amounts_all),
       )
+
+on_more : (p : Plan) (t : Taken) (go : ℕ → Plan → Reading) → on_with p (Ok (Some t)) go ≡ go (next_of t) (more p t)
+on_more p (Header b next) go = refl
+on_more p (Task c next) go = refl
+on_more p (Edge from to words next) go = refl
 
 -- ---- at the head of the loop: the plan so far, which the rest of the bytes completes
 pub record From (bytes : List ℕ) (c : Columns) (s : Seen) : Type 0 where
@@ -122,101 +147,44 @@ from_start bytes c e =
     }
 
 module _ (bytes : List ℕ) (c : Columns) (k : Seen) (f : From bytes c k) (x : Next) (ex : x ≡ field_of bytes k) where
-  -- what the field gave, and the reading behind it
-  gave : {y : Next} → x ≡ y → Took bytes k y
-  gave e = subst (Took bytes k) (sym ex ∙ e) (took bytes k)
-
   reading : {y : Next} → x ≡ y → on_with f.sofar y (reading_from bytes) ≡ reading_of bytes
   reading {y} e =
       let q : field_of bytes (seen_of k.at f.sofar) ≡ y = ap (field_of bytes) (sym f.seen) ∙ (sym ex ∙ e) in
       ap (λ (z : Next). on_with f.sofar z (reading_from bytes)) (sym q) ∙ (sym (reading_on bytes k.at f.sofar f.within) ∙ f.same)
 
-  tasks_is : k.tasks ≡ tasks f.sofar
-  tasks_is = ap (λ (z : Seen). z.tasks) f.seen
+  -- a field: what it gave, for which there is room
+  module _ (t : Taken) (e : x ≡ Ok (Some t)) where
+    gave : Gave bytes k.at f.sofar f.partly t
+    gave = subst (λ (z : Seen). Took bytes z (Ok (Some t))) f.seen (subst (Took bytes k) (sym ex ∙ e) (took bytes k))
 
-  edges_is : k.edges ≡ edges f.sofar
-  edges_is = ap (λ (z : Seen). z.edges) f.seen
+    pub seen_room : Room k.tasks k.edges t
+    seen_room = subst (λ (z : Seen). Room z.tasks z.edges t) (sym f.seen) (more_room bytes k.at f.sofar f.partly t gave)
 
-  columns_tasks : c.tasks ≡ tasks f.sofar
-  unfolding columns_of
-  columns_tasks = ap (λ (z : Columns). z.tasks) f.columns
+    pub columns_room : Room c.tasks c.edges t
+    unfolding columns_of
+    columns_room = subst (λ (z : Columns). Room z.tasks z.edges t) (sym f.columns) (more_room bytes k.at f.sofar f.partly t gave)
 
-  columns_edges : c.edges ≡ edges f.sofar
-  unfolding columns_of
-  columns_edges = ap (λ (z : Columns). z.edges) f.columns
+    -- it carries the plan so far on
+    module _ (z : Seen) (ez : z ≡ after k t) where
+      seen_next : z ≡ seen_of (next_of t) (more f.sofar t)
+      seen_next = ez ∙ (ap (λ (y : Seen). after y t) f.seen ∙ more_seen bytes k.at f.sofar f.partly t gave)
 
-  -- there is room for it
-  pub seen_room : (t : Taken) → x ≡ Ok (Some t) → Room k.tasks k.edges t
-  seen_room (Header b next) e = tt
-  seen_room (Task cost next) e = (gave e).room
-  seen_room (Edge from to words next) e = (gave e).room
+      place_next : next_of t ≡ z.at
+      place_next = sym (ap (λ (y : Seen). y.at) seen_next)
 
-  pub columns_room : (t : Taken) → x ≡ Ok (Some t) → Room c.tasks c.edges t
-  columns_room (Header b next) e = tt
-  columns_room (Task cost next) e = omega (arith, (gave e).room, tasks_is, columns_tasks)
-  columns_room (Edge from to words next) e = omega (arith, (gave e).room, edges_is, columns_edges)
+      pub from_less : length bytes - z.at < length bytes - k.at
+      from_less = let w = more_within bytes k.at f.sofar f.partly t gave in omega (arith, w.0, w.1, place_next)
 
-  -- it goes forward
-  behind : (t : Taken) → x ≡ Ok (Some t) → (k.at < (after k t).at) × ((after k t).at ≤ length bytes)
-  behind (Header b next) e = (omega (arith, (gave e).behind), (gave e).fits)
-  behind (Task cost next) e = (omega (arith, (gave e).behind), (gave e).fits)
-  behind (Edge from to words next) e = (omega (arith, (gave e).behind), (gave e).fits)
-
-  pub from_less : (t : Taken) (z : Seen) → x ≡ Ok (Some t) → z ≡ after k t → length bytes - z.at < length bytes - k.at
-  from_less t z e q = let b = behind t e in omega (arith, b.0, b.1, ap (λ (y : Seen). y.at) q)
-
-  -- and carries the plan so far on
-  from_header : (given : Bus) (next : ℕ) → x ≡ Ok (Some (Header given next)) → From bytes (kept c (Header given next)) (after k (Header given next))
-  from_header given next e =
-      let w : HeaderTaken bytes (seen_of k.at f.sofar) given next = subst (λ (z : Seen). HeaderTaken bytes z given next) f.seen (gave e) in
-      record {
-        sofar = with_bus f.sofar given;
-        seen = seen_is _ _ refl (sym (lt-ltb 0 given.cores w.settings.cores_some)) tasks_is edges_is (ap (λ (z : Seen). z.least) f.seen ∙ least_bus f.sofar given);
-        partly = partly_header bytes k.at f.sofar f.partly given next w;
-        within = w.fits;
-        same = reading e;
-        columns = ap (λ (z : Columns). kept z (Header given next)) f.columns ∙ columns_header f.sofar (replicate 64 0) given next;
-      }
-
-  from_task : (cost next : ℕ) → x ≡ Ok (Some (Task cost next)) → From bytes (kept c (Task cost next)) (after k (Task cost next))
-  from_task cost next e =
-      let w : TaskTaken bytes (seen_of k.at f.sofar) cost next = subst (λ (z : Seen). TaskTaken bytes z cost next) f.seen (gave e) in
-      record {
-        sofar = with_task f.sofar cost;
-        seen =
-            seen_is _ _ refl (ap (λ (z : Seen). z.started) f.seen) (omega (arith, tasks_is, snoc_length f.sofar.costs cost)) edges_is
-            (ap (λ (z : Seen). z.least) f.seen ∙ least_task f.sofar cost);
-        partly = partly_task bytes k.at f.sofar f.partly cost next w;
-        within = w.fits;
-        same = reading e;
-        columns = ap (λ (z : Columns). kept z (Task cost next)) f.columns ∙ columns_task f.sofar (replicate 64 0) cost next;
-      }
-
-  from_edge : (from to words next : ℕ) → x ≡ Ok (Some (Edge from to words next))
-      → From bytes (kept c (Edge from to words next)) (after k (Edge from to words next))
-  from_edge from to words next e =
-      let w : EdgeTaken bytes (seen_of k.at f.sofar) from to words next = subst (λ (z : Seen). EdgeTaken bytes z from to words next) f.seen (gave e) in
-      let v = f.partly.ranges in
-      record {
-        sofar = with_edge f.sofar from to words;
-        seen =
-            seen_is _ _ refl (ap (λ (z : Seen). z.started) f.seen) tasks_is (omega (arith, edges_is, snoc_length f.sofar.sources from))
-            (least_edge f.sofar from to words v.targets_all);
-        partly = partly_edge bytes k.at f.sofar f.partly from to words next w;
-        within = w.fits;
-        same = reading e;
-        columns =
-            ap (λ (z : Columns). kept z (Edge from to words next)) f.columns
-            ∙ columns_edge f.sofar (replicate 64 0) from to words next v.targets_all v.amounts_all;
-      }
-
-  from_taken : (t : Taken) → x ≡ Ok (Some t) → From bytes (kept c t) (after k t)
-  from_taken (Header given next) e = from_header given next e
-  from_taken (Task cost next) e = from_task cost next e
-  from_taken (Edge from to words next) e = from_edge from to words next e
-
-  pub from_next : (t : Taken) (d : Columns) (z : Seen) → x ≡ Ok (Some t) → d ≡ kept c t → z ≡ after k t → From bytes d z
-  from_next t d z e q r = rw (q, r) (from_taken t e)
+      pub from_next : (d : Columns) → d ≡ kept c t → From bytes d z
+      from_next d ed =
+          record {
+            sofar = more f.sofar t;
+            seen = rw place_next at seen_next;
+            partly = rw place_next at (more_partly bytes k.at f.sofar f.partly t gave);
+            within = omega (arith, (more_within bytes k.at f.sofar f.partly t gave).1, place_next);
+            same = rw place_next at (sym (on_more f.sofar t (reading_from bytes)) ∙ reading e);
+            columns = ed ∙ (ap (λ (y : Columns). kept y t) f.columns ∙ more_columns bytes k.at f.sofar f.partly (replicate 64 0) t);
+          }
 
   -- the end
   abbrev Ended : Check → Type 0

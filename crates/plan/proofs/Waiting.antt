@@ -10,6 +10,7 @@ use lib.Dec.{ltb, eqb}
 use lib.ListN.{length, set, replicate, length-replicate, length-set}
 use lib.Seq.{get_or-set_same, get_or-set_other}
 use borrow.Author.Tests.{eq-eqb, ne_eqb, lt-ltb, le-ltb, ltb-true, ltb-false, eqb-true, not-true, not-false}
+use Rattle.std.proofs.lemmas.List.{get_or-replicate}
 use Rattle.std.specs.List.Sorted.{IsPartitionPoint}
 use Rattle.model.specs.Below.{join_below, at, bit, count_below, all_below, first_below}
 use Rattle.model.specs.Plan.{Plan, tasks, edges, source, target, key_of}
@@ -134,16 +135,11 @@ module _ (n : ℕ) (sources targets : List ℕ) where
               omega (
                 arith,
                 r.each j,
-                ones 64 j (omega (arith, l, ok.few_tasks)),
+                get_or-replicate {A = ℕ} 64 j 1 0 (omega (arith, l, ok.few_tasks)),
                 left_open [] j (none_taken j),
                 all_open j,
               );
         }
-      where
-        ones : (k j : ℕ) → j < k → at (replicate k 1) j ≡ 1
-        ones zero j l = absurd (omega arith)
-        ones (suc k) zero l = refl
-        ones (suc k) (suc j) l = ones k j (omega arith)
 
     module _ (o left : List ℕ) (w : Kept o left) where
       -- ---- ready is 1
@@ -275,7 +271,7 @@ module _ (n : ℕ) (s t : List ℕ) (ok : Edges n s t) (order₀ order left : Li
         record {
           within = omega arith;
           long = ap length one ∙ omega (arith, snoc_length (listed g r) i, w.long);
-          ordered = rw one (filled_more (listed g r) order₀ order r i w.ordered (sym w.long));
+          ordered = rw (one, w.ordered) (filled_more (listed g r) order₀ r i (sym w.long));
           kept = rw one (kept_next n s t ok (listed g r) left w.kept i ei hi mid k);
         }
 
@@ -337,5 +333,5 @@ unfolding left_over
 left_over_lem n s t = rw (graph_tasks n s t)
 
 -- where the first edge from task i or from a task above it stands
-pub parts_at : (n : ℕ) (s t : List ℕ) → Edges n s t → (i e : ℕ) → e ≤ length s → IsPartitionPoint (λ x. ltb x i ≡ true) (λ x. ltb x i ≡ false) s e → Parts s i e e
+pub parts_at : (n : ℕ) (s t : List ℕ) → Edges n s t → (i e : ℕ) → e ≤ length s → IsPartitionPoint (λ x. ltb x i ≡ true) (λ x. ltb x i ≡ false) s e → Parts s i e
 parts_at n s t ok i e h p = record { within = h; below = λ k l. ltb-true (at s k) i (p.0 k 0 (omega arith) l); above = λ k a b. ltb-false (at s k) i (p.1 k 0 a b) }

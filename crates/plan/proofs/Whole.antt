@@ -2,11 +2,10 @@
 use mathlib.Core.Path.{◌≡◌, refl, sym, ap, subst, ◌∙◌}
 use mathlib.Core.Bool.{false}
 use mathlib.Core.List.{List}
-use Prim.Native.Nat.{ℕ, ◌≤◌, ◌<◌}
+use Prim.Native.Nat.{ℕ, ◌≤◌}
 use native.Mathlib.Omega.{arith}
-use lib.ListN.{length, drop, take, replicate, length-replicate, get_or-append}
+use lib.ListN.{length, drop, take, replicate, length-replicate}
 use lib.Seq.{take-append_seam}
-use Rattle.model.specs.Below.{at}
 use Rattle.model.specs.Refusals.{refusal, refuse_if, Check}
 use Rattle.model.specs.Field.{plan_step, Step}
 use Rattle.model.specs.Plan.{Plan, tasks, edges, reading_of, tasks as tasks_of, edges as edges_of}
@@ -17,8 +16,8 @@ use Rattle.model.specs.declared.Refusal.{Refusal}
 use Rattle.model.proofs.Refusals.{or_good, not_refused}
 use Rattle.model.proofs.Graph.{order_length}
 use Rattle.model.proofs.Plan.{Read, plan_valid}
-use Rattle.plan.specs.Order.{graph_of, Edges}
-use Rattle.plan.specs.Planned.{filled, order_by, columns_of, plan_check, plan_read, Sized}
+use Rattle.plan.specs.Order.{graph_of}
+use Rattle.plan.specs.Planned.{filled, graph_in, EdgesIn, order_by, columns_of, plan_check, plan_read, Sized}
 use Rattle.plan.specs.declared.Columns.{Columns}
 use Rattle.plan.specs.declared.PlanRead.{PlanRead}
 use Rattle.plan.proofs.Fields.{filled_front, filled_length}
@@ -26,14 +25,8 @@ use Rattle.plan.proofs.Waiting.{order_graph, left_graph}
 use Rattle.std.specs.Prelude.{Ok, Err}
 
 -- the entries at a column's front
-pub filled_at : (front l : List ℕ) (i : ℕ) → length front ≤ length l → i < length front → at (filled front l) i ≡ at front i
-filled_at front l i h k = rw (filled_front front l h) (get_or-append front (drop (length front) l) 0 i k)
-
 pub filled_take : (front l : List ℕ) (n : ℕ) → n ≡ length front → length front ≤ length l → take n (filled front l) ≡ front
 filled_take front l n e h = rw (e, filled_front front l h) (take-append_seam front (drop (length front) l))
-
-zeros : (n : ℕ) → length (replicate {A = ℕ} n 0) ≡ n
-zeros n = length-replicate n 0
 
 -- the columns hold the fields that were read, and no list order yet
 module _ (bytes : List ℕ) (c : Columns) (e : c ≡ columns_of (reading_of bytes).plan (replicate 64 0)) where
@@ -55,20 +48,20 @@ module _ (bytes : List ℕ) (c : Columns) (e : c ≡ columns_of (reading_of byte
 
     sources_take : take c.edges c.sources ≡ p.sources
     unfolding columns_of
-    sources_take = rw e (filled_take p.sources (replicate 256 0) (edges p) refl (omega (arith, facts.valid.ranges.few_edges, zeros 256)))
+    sources_take = rw e (filled_take p.sources (replicate 256 0) (edges p) refl (omega (arith, facts.valid.ranges.few_edges)))
 
     targets_take : take c.edges c.targets ≡ p.targets
     unfolding columns_of
     targets_take =
         let all = facts.valid.ranges.targets_all in
-        rw e (filled_take p.targets (replicate 256 0) (edges p) (sym all) (omega (arith, facts.valid.ranges.few_edges, all, zeros 256)))
+        rw e (filled_take p.targets (replicate 256 0) (edges p) (sym all) (omega (arith, facts.valid.ranges.few_edges, all)))
 
     tasks_is : c.tasks ≡ tasks p
     unfolding columns_of
     tasks_is = ap (λ (z : Columns). z.tasks) e
 
     -- what the list order needs of the edges
-    pub read_edges : Edges c.tasks (take c.edges c.sources) (take c.edges c.targets)
+    pub read_edges : EdgesIn c
     read_edges =
         let v = facts.valid.ranges in
         rw (tasks_is, sources_take, targets_take)
@@ -81,35 +74,32 @@ module _ (bytes : List ℕ) (c : Columns) (e : c ≡ columns_of (reading_of byte
           rising = v.rising;
         })
 
-    abbrev graph : Plan
-    graph = graph_of c.tasks (take c.edges c.sources) (take c.edges c.targets)
-
-    graph_is : graph ≡ graph_of (tasks p) p.sources p.targets
+    graph_is : graph_in c ≡ graph_of (tasks p) p.sources p.targets
     graph_is = λ i. graph_of (tasks_is i) (sources_take i) (targets_take i)
 
     -- all fields are good, and the list order has decided
-    checked : (check : Check) → check ≡ refuse_if (left_over graph) (refusal Cyclic OfPlan (length bytes)) → check ≡ plan_check bytes
+    checked : (check : Check) → check ≡ refuse_if (left_over (graph_in c)) (refusal Cyclic OfPlan (length bytes)) → check ≡ plan_check bytes
     unfolding plan_check
     checked check k = k ∙ rw (graph_is, ← left_graph p, ← good)
 
-    listed : record c { order = filled (list_order graph) c.order } ≡ columns_of p (order_by p (reading_of bytes).check)
+    listed : record c { order = filled (list_order (graph_in c)) c.order } ≡ columns_of p (order_by p (reading_of bytes).check)
     unfolding columns_of
     listed = rw (graph_is, ← order_graph p, ← good, e)
 
     pub read_good : (check : Check) (d : Columns)
-        → check ≡ refuse_if (left_over graph) (refusal Cyclic OfPlan (length bytes))
-        → d ≡ record c { order = filled (list_order graph) c.order }
+        → check ≡ refuse_if (left_over (graph_in c)) (refusal Cyclic OfPlan (length bytes))
+        → d ≡ record c { order = filled (list_order (graph_in c)) c.order }
         → (record { check = check; columns = d }) ≡ plan_read bytes
     unfolding plan_read
     read_good check d k q = rw (checked check k, q, listed)
 
 -- ---- for the callers of `read_plan`
 long : (front : List ℕ) (n : ℕ) → n ≡ length (filled front (replicate n 0))
-long front n = sym (filled_length front (replicate n 0) ∙ zeros n)
+long front n = sym (filled_length front (replicate n 0) ∙ length-replicate n 0)
 
 ordered_long : (p : Plan) (c : Check) → 64 ≡ length (order_by p c)
 ordered_long p (Ok tt) = long (list_order p) 64
-ordered_long p (Err r) = sym (zeros 64)
+ordered_long p (Err r) = refl
 
 pub read_sized : (bytes : List ℕ) (r : PlanRead) → r ≡ plan_read bytes → Sized r.columns
 unfolding plan_read columns_of
@@ -158,11 +148,11 @@ known bytes g =
       bus = refl;
       tasks = refl;
       edges = refl;
-      costs = filled_take p.costs (replicate 64 0) (tasks_of p) refl (omega (arith, v.few_tasks, zeros 64));
-      order = rw q (filled_take (list_order p) (replicate 64 0) (tasks_of p) (sym (order_length p f)) (omega (arith, order_length p f, v.few_tasks, zeros 64)));
-      sources = filled_take p.sources (replicate 256 0) (edges_of p) refl (omega (arith, v.few_edges, zeros 256));
-      targets = filled_take p.targets (replicate 256 0) (edges_of p) (sym v.targets_all) (omega (arith, v.few_edges, v.targets_all, zeros 256));
-      amounts = filled_take p.amounts (replicate 256 0) (edges_of p) (sym v.amounts_all) (omega (arith, v.few_edges, v.amounts_all, zeros 256));
+      costs = filled_take p.costs (replicate 64 0) (tasks_of p) refl (omega (arith, v.few_tasks));
+      order = rw q (filled_take (list_order p) (replicate 64 0) (tasks_of p) (sym (order_length p f)) (omega (arith, order_length p f, v.few_tasks)));
+      sources = filled_take p.sources (replicate 256 0) (edges_of p) refl (omega (arith, v.few_edges));
+      targets = filled_take p.targets (replicate 256 0) (edges_of p) (sym v.targets_all) (omega (arith, v.few_edges, v.targets_all));
+      amounts = filled_take p.amounts (replicate 256 0) (edges_of p) (sym v.amounts_all) (omega (arith, v.few_edges, v.amounts_all));
     }
 
 pub plan_known : (bytes : List ℕ) (r : PlanRead) → r ≡ plan_read bytes → r.check ≡ Ok tt → Known bytes r.columns (reading_of bytes).plan

@@ -19,11 +19,11 @@ pub record Edges (n : ℕ) (sources targets : List ℕ) : Type 0 where
   pub targets_low : (e : ℕ) → e < length sources → at targets e < n
   pub rising : (e : ℕ) → e + 1 < length sources → key_of (at sources e) (at targets e) < key_of (at sources (e + 1)) (at targets (e + 1))
 
--- the edges before `low` are from tasks below i, those from `high` on are not
-pub record Parts (sources : List ℕ) (i low high : ℕ) : Type 0 where
-  pub within : high ≤ length sources
-  pub below : (e : ℕ) → e < low → at sources e < i
-  pub above : (e : ℕ) → high ≤ e → e < length sources → i ≤ at sources e
+-- the edges before edge e are from tasks below i, the others are not
+pub record Parts (sources : List ℕ) (i e : ℕ) : Type 0 where
+  pub within : e ≤ length sources
+  pub below : (k : ℕ) → k < e → at sources k < i
+  pub above : (k : ℕ) → e ≤ k → k < length sources → i ≤ at sources k
 
 -- how many of the first m edges end at task j, and how many of them are from task i
 unfoldable pub edges_to : ℕ → List ℕ → ℕ → ℕ

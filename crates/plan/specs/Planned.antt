@@ -11,6 +11,7 @@ use Rattle.model.specs.declared.Side.TheVariants.{OfPlan}
 use Rattle.model.specs.declared.Seen.{Seen}
 use Rattle.model.specs.declared.Taken.{Taken}
 use Rattle.model.specs.declared.Taken.TheVariants.{Header, Task, Edge}
+use Rattle.plan.specs.Order.{graph_of, Edges}
 use Rattle.plan.specs.declared.Columns.{Columns}
 use Rattle.plan.specs.declared.PlanRead.{PlanRead}
 
@@ -73,6 +74,13 @@ kept c (Edge from to words next) =
       targets = set c.targets c.edges to;
       amounts = set c.amounts c.edges words;
     }
+
+-- the tasks and edges of the columns, and what the list order needs of them
+abbrev pub graph_in : Columns → Plan
+graph_in c = graph_of c.tasks (take c.edges c.sources) (take c.edges c.targets)
+
+abbrev pub EdgesIn : Columns → Type 0
+EdgesIn c = Edges c.tasks (take c.edges c.sources) (take c.edges c.targets)
 
 -- the columns are as long as their arrays
 pub record Sized (c : Columns) : Type 0 where

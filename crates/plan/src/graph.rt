@@ -29,7 +29,7 @@ impl<'a> Graph<'a> {
 
     // The first edge from task i or from a task above it: edges rise by source.
     fn first_edge(self, i: usize) -> usize
-        ensures { Parts self.entry.sources.now i result result }
+        ensures { Parts self.entry.sources.now i result }
     {
         self.sources
             .partition_point(|source| usize::from(*source) < i)

@@ -1,14 +1,13 @@
 // The plan reader: one step over the fields, the parser over it, the list order and the cycle test.
 #![tactic(auto)]
 
-ghost use Rattle.std.specs.Prelude.{◌≡◌, ℕ, ◌+◌, ◌<◌, ◌≤◌, length, take, replicate, MatchOption, MatchResult};
+ghost use Rattle.std.specs.Prelude.{◌≡◌, ℕ, ◌+◌, ◌<◌, ◌≤◌, ◌≢◌, length, replicate, MatchOption, MatchResult};
 ghost use Rattle.model.specs.Below.{at};
 ghost use Rattle.model.specs.Field.{two, plan_body, body_of, step_in, plan_step, place_after};
 ghost use Rattle.model.specs.Plan.{no_plan, key_of, settings_good, in_order, header_in, task_in, edge_in, tagged, field_by, field_of, reading_of};
 ghost use Rattle.model.specs.Refusals.{refusal, refuse_if};
 ghost use Rattle.model.specs.Graph.{left_over, list_order, plan_of};
-ghost use Rattle.plan.specs.Order.{graph_of, Edges};
-ghost use Rattle.plan.specs.Planned.{filled, columns_of, columns_read, plan_check, plan_read, after, kept, Room, Holds};
+ghost use Rattle.plan.specs.Planned.{filled, columns_of, columns_read, plan_read, after, kept, Room, Holds, graph_in, EdgesIn};
 
 mod graph;
 
@@ -31,6 +30,7 @@ pub fn two_at(s: &[u8], i: usize) -> u16
     u16::from(s[i]) * 256 + u16::from(s[i + 1])
 }
 
+// The refusal of a side's bytes at a place.
 fn refuse<T>(fault: Fault, side: Side, place: usize) -> Result<T, Refusal>
     ensures { result ≡ Err (record { fault = fault; side = side; place = place }) }
 {
@@ -144,7 +144,8 @@ fn task_in(plan: &[u8], seen: Seen) -> Result<Option<Taken>, Refusal>
 
 // The number by which edges rise.
 fn key_of(source: u8, target: u8) -> usize
-    ensures { (result ≡ key_of source target) × (result < 65536) }
+    ensures key { result ≡ key_of source target }
+    ensures small { result < 65536 }
 {
     256 * usize::from(source) + usize::from(target)
 }
@@ -203,7 +204,8 @@ pub struct Reader<'a> {
 
 impl<'a> Reader<'a> {
     pub fn new(plan: &'a [u8]) -> Self
-        ensures { (result.plan ≡ plan.entry) × (result.at ≡ 0) }
+        ensures plan { result.plan ≡ plan.entry }
+        ensures at { result.at ≡ 0 }
     {
         Reader { plan, at: 0 }
     }
@@ -217,7 +219,8 @@ impl<'a> Reader<'a> {
 
     // The reader after that field; on a refusal, and at the end, its position stays.
     pub fn advanced(self) -> Self
-        ensures { (result.plan ≡ self.entry.plan) × (result.at ≡ place_after (plan_step self.entry.plan.now self.entry.at) self.entry.at) }
+        ensures plan { result.plan ≡ self.entry.plan }
+        ensures at { result.at ≡ place_after (plan_step self.entry.plan.now self.entry.at) self.entry.at }
     {
         Reader {
             at: place_after(self.plan, self.at),
@@ -236,7 +239,8 @@ pub fn step_from(plan: &[u8], at: usize) -> Result<Option<Field>, Refusal>
 // A whole field by its tag.
 #[tactic(auto, unfolding(model::specs::Field::plan_body))]
 fn by_tag(plan: &[u8], seen: Seen, tag: u8) -> Result<Option<Taken>, Refusal>
-    requires { (plan_body tag ≡ 0 → ⊥) × (seen.at + 3 + plan_body tag ≤ length plan.now) }
+    requires known { plan_body tag ≢ 0 }
+    requires whole { seen.at + 3 + plan_body tag ≤ length plan.now }
     ensures { result ≡ tagged plan.now seen tag }
 {
     match tag {
@@ -392,9 +396,9 @@ impl Columns {
     #[tactic(auto, using(crate::proofs::Waiting::left_over_lem))]
     fn list(&mut self, place: usize) -> Result<(), Refusal>
         requires few { self.old.edges ≤ 256 }
-        requires edges { Edges self.old.tasks (take self.old.edges self.old.sources) (take self.old.edges self.old.targets) }
-        ensures check { result ≡ refuse_if (left_over (graph_of self.old.tasks (take self.old.edges self.old.sources) (take self.old.edges self.old.targets))) (refusal Fault.Cyclic Side.OfPlan place) }
-        ensures order { self.new ≡ record self.old { order = filled (list_order (graph_of self.old.tasks (take self.old.edges self.old.sources) (take self.old.edges self.old.targets))) self.old.order } }
+        requires edges { EdgesIn self.old }
+        ensures check { result ≡ refuse_if (left_over (graph_in self.old)) (refusal Fault.Cyclic Side.OfPlan place) }
+        ensures order { self.new ≡ record self.old { order = filled (list_order (graph_in self.old)) self.old.order } }
     {
         let graph = Graph {
             tasks: self.tasks,

@@ -6,4 +6,4 @@ use Rattle.plan.proofs.field_by.Goals as goal
 pub by_tag-requires : goal.by_tag-requires
 by_tag-requires c =
     let w = found_whole _ _ _ _ _ c.step_from.ensures c.in_ok-field.was c.in-Some.is in
-    (w.known, omega (arith, w.fits, w.sized))
+    record { known = w.known; whole = omega (arith, w.fits, w.sized) }

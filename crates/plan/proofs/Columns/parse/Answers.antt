@@ -19,10 +19,10 @@ pub after-seen-requires : goal.after-seen-requires
 after-seen-requires c = seen_room _ _ _ c.loop-taken.invariant _ c.field_of.ensures _ (rw c.in-Some.is at c.in_ok-taken.was)
 
 pub loop-taken-smaller : goal.loop-taken-smaller
-loop-taken-smaller c = from_less _ _ _ c.loop-taken.invariant _ c.field_of.ensures _ _ (rw c.in-Some.is at c.in_ok-taken.was) c.after-seen.ensures
+loop-taken-smaller c = from_less _ _ _ c.loop-taken.invariant _ c.field_of.ensures _ (rw c.in-Some.is at c.in_ok-taken.was) _ c.after-seen.ensures
 
 pub loop-taken-preserved : goal.loop-taken-preserved
-loop-taken-preserved c = from_next _ _ _ c.loop-taken.invariant _ c.field_of.ensures _ _ _ (rw c.in-Some.is at c.in_ok-taken.was) c.keep.ensures c.after-seen.ensures
+loop-taken-preserved c = from_next _ _ _ c.loop-taken.invariant _ c.field_of.ensures _ (rw c.in-Some.is at c.in_ok-taken.was) _ c.after-seen.ensures _ c.keep.ensures
 
 pub returns : goal.returns
 returns c = let e = from_complete _ _ _ c.loop-taken.invariant _ c.field_of.ensures (rw c.in_default.is at c.in_ok-taken.was) in record { check = e.0; columns = e.1 }

@@ -1,15 +1,9 @@
 -- `plan::graph::Graph::release` meets its contract. The edges from the task that were passed are no longer counted
 -- (proofs/Counted.antt).
-use Rattle.std.proofs.Common.{ℕ, ◌≡◌, ◌≤◌, ◌<◌, List, length, arith, rules}
-use Rattle.model.specs.Below.{at}
+use Rattle.std.proofs.Common.{arith, rules}
 use Rattle.plan.proofs.Counted.{released_none, released_some, released_next, released_end}
 use Rattle.plan.proofs.Waiting.{sources_rise}
 use Rattle.plan.proofs.graph.Graph.release.Goals as goal
-
--- the edge is from the task
-from_here : (sources : List ℕ) (i e : ℕ) {from : ℕ} → ((k : ℕ) → e ≤ k → k < length sources → i ≤ at sources k) → e < length sources
-    → from ≡ at sources e → from ≤ i → at sources e ≡ i
-from_here sources i e up h q l = omega (arith, up e (omega arith) h)
 
 pub loop-e-init : goal.loop-e-init
 loop-e-init c = let w = c.first_edge-e.ensures in record { from = w.above; released = released_none _ _ _ _ w _ }
@@ -22,20 +16,18 @@ returns-then-i-from c =
 
 pub overflow_sub-left : goal.overflow_sub-left
 overflow_sub-left c =
-    released_some _ _ _ _ _ _ _ _ (omega arith) c.loop-e.invariant.released _
-    (from_here _ _ _ c.loop-e.invariant.from c.loop-e-test.true c.from.ensures c.if-i-from.false)
-    c.from-target.ensures c.loop-e-test.true c.requires
+    let w = c.loop-e.invariant in
+    released_some _ _ _ _ _ _ _ _ (omega arith) w.released _ _ c.loop-e-test.true w.from c.from.ensures c.if-i-from.false c.from-target.ensures c.requires
 
 pub loop-e-preserved : goal.loop-e-preserved
 loop-e-preserved c =
-    let here = from_here _ _ _ c.loop-e.invariant.from c.loop-e-test.true c.from.ensures c.if-i-from.false in
-    let w = c.loop-e.invariant.released in
+    let w = c.loop-e.invariant in
+    let ok = c.args.self.edges in
     record {
-      from = λ k a b. c.loop-e.invariant.from k (omega arith) b;
+      from = λ k a b. w.from k (omega arith) b;
       released =
-          released_next _ _ _ _ _ _ _ _ (omega arith) w _ here c.from-target.ensures c.loop-e-test.true
-          (omega (arith, c.from-target.ensures, c.args.self.edges.targets_low c.loop-e.e c.loop-e-test.true, c.args.self.edges.few_tasks, w.lowered.long))
-          (released_some _ _ _ _ _ _ _ _ (omega arith) w _ here c.from-target.ensures c.loop-e-test.true c.requires)
+          released_next _ _ _ _ _ _ _ _ (omega arith) w.released _ _ c.loop-e-test.true w.from c.from.ensures c.if-i-from.false c.from-target.ensures c.requires
+          (omega (arith, ok.targets_low c.loop-e.e c.loop-e-test.true, w.released.lowered.long))
           _ (search rules);
     }
 
