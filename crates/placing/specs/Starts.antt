@@ -6,6 +6,7 @@ use Rattle.model.specs.Plan.{tasks}
 use Rattle.model.specs.ListRule.{Candidate, core_in, exclusive, LeastFree}
 use Rattle.contention.specs.Columns.{rival_by, close_of}
 use Rattle.placing.specs.Candidates.{Chained}
+pub use Rattle.placing.specs.declared.earlier.Task.{Task}
 
 -- ---- "not before the F of any source or of any earlier-listed task on its core"
 -- the greatest F of the first a places on core `mine`
@@ -36,15 +37,7 @@ pub record Closed (words end closes tops : List ℕ) (a : ℕ) : Type 0 where
   pub topped : (y z : ℕ) → y ≤ 2 * a → z < y → at closes z ≤ at tops y
 
 -- ---- "the least such time at which neither of its phases overlaps a phase of an earlier-listed task on another core"
--- a task to be placed: its core, the words of its phases, and the lengths of its three windows
-pub record Task : Type 0 where
-  pub mine : ℕ
-  pub reads : ℕ
-  pub writes : ℕ
-  pub read : ℕ
-  pub cost : ℕ
-  pub write : ℕ
-
+-- the numbers of a task to be placed
 abbrev pub task : ℕ → ℕ → ℕ → ℕ → ℕ → ℕ → Task
 task mine reads writes read cost write =
     record { mine = mine; reads = reads; writes = writes; read = read; cost = cost; write = write }
