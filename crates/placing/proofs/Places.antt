@@ -26,7 +26,7 @@ use Rattle.contention.proofs.Ranges.{back_le, back_over, near_rival}
 use Rattle.contention.proofs.Columns.{Column, column_is}
 use Rattle.contention.proofs.Rivalry.{front_count, sized_front}
 use Rattle.placing.specs.Candidates.{plan_by, candidate_by, Ready, FewCores}
-use Rattle.placing.specs.Starts.{free_by, sent_by, earliest_by, Freed, close_by, Closed, Task, task_at, end_met, clash_by, Starts, Room, Prepared}
+use Rattle.placing.specs.Starts.{free_by, sent_by, earliest_by, Freed, close_by, Closed, with_pair, with_free, with_closes, with_tops, Task, task_at, end_met, clash_by, Starts, Room, Prepared}
 
 -- ---- phases that are closed are met as before
 close_self : (x : ℕ) → x ≡ close_of x x
@@ -185,9 +185,9 @@ module _ (l : List ℕ) (i j u v : ℕ) (apart : i < j) (room : j < length l) wh
 -- ---- a column with the two phases of one more place
 column_pair :
     (f : ℕ → ℕ) (a : ℕ) (old new : List ℕ) (u v : ℕ) → 2 * a + 2 ≤ length old → Column f (2 * a) old new → u ≡ f (2 * a)
-    → v ≡ f (2 * a + 1) → Column f (2 * (a + 1)) old (set (set new (2 * a) u) (2 * a + 1) v)
+    → v ≡ f (2 * a + 1) → Column f (2 * (a + 1)) old (with_pair new a u v)
 column_pair f a old new u v room c p q =
-    let two = set (set new (2 * a) u) (2 * a + 1) v in
+    let two = with_pair new a u v in
     let near : 2 * a < 2 * a + 1 = omega arith in
     let fits : 2 * a + 1 < length new = omega (arith, c.long) in
     let other = pair_other new (2 * a) (2 * a + 1) u v near fits in
@@ -227,7 +227,7 @@ closed_none words end =
 module _ (core words end end' : List ℕ) (a : ℕ) (same : (y : ℕ) → y < 2 * a → at end' y ≡ at end y) where
   pub freed_more :
       (free free' : List ℕ) → Freed core end free a → at core (2 * a) < 8
-      → free' ≡ set free (at core (2 * a)) (max (at free (at core (2 * a))) (at end' (2 * a + 1)))
+      → free' ≡ with_free free core end' a
       → Freed core end' free' (a + 1)
   unfolding free_by
   freed_more free free' w few e =
@@ -249,8 +249,8 @@ module _ (core words end end' : List ℕ) (a : ℕ) (same : (y : ℕ) → y < 2 
 
   pub closed_more :
       (closes tops closes' tops' : List ℕ) → a < 64 → Closed words end closes tops a
-      → closes' ≡ set (set closes (2 * a) (close_by words end' (2 * a))) (2 * a + 1) (close_by words end' (2 * a + 1))
-      → tops' ≡ set (set tops (2 * a + 1) (max (at tops (2 * a)) (close_by words end' (2 * a)))) (2 * a + 2) (max (max (at tops (2 * a)) (close_by words end' (2 * a))) (close_by words end' (2 * a + 1)))
+      → closes' ≡ with_closes closes words end' a
+      → tops' ≡ with_tops tops words end' a
       → Closed words end' closes' tops' (a + 1)
   closed_more closes tops closes' tops' few w p q =
       let u : ℕ = close_by words end' (2 * a) in
@@ -514,8 +514,8 @@ module _ (bus : Bus) (costs sources targets amounts links choices core words len
 
       pub done_more :
           (start' end' : List ℕ)
-          → start' ≡ set (set start (2 * a) r) (2 * a + 1) (r + at lengths (2 * a) + at costs a)
-          → end' ≡ set (set end (2 * a) (r + at lengths (2 * a))) (2 * a + 1) (r + at lengths (2 * a) + at costs a + at lengths (2 * a + 1))
+          → start' ≡ with_pair start a r (r + at lengths (2 * a) + at costs a)
+          → end' ≡ with_pair end a (r + at lengths (2 * a)) (r + at lengths (2 * a) + at costs a + at lengths (2 * a + 1))
           → Done t start₀ end₀ start' end' (a + 1)
       unfolding placed
       done_more start' end' p q =

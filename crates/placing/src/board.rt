@@ -1,7 +1,7 @@
 // What is kept of the places that stand, so that the next one is placed fast.
-ghost use Rattle.std.specs.Prelude.{◌≡◌, ◌+◌, ◌*◌, ◌≤◌, ◌<◌, max, length, set};
+ghost use Rattle.std.specs.Prelude.{◌≡◌, ◌+◌, ◌*◌, ◌≤◌, ◌<◌, length};
 ghost use Rattle.model.specs.Below.{at};
-ghost use Rattle.placing.specs.Starts.{close_by};
+ghost use Rattle.placing.specs.Starts.{with_free, with_closes, with_tops};
 
 use crate::PhaseLoads;
 
@@ -21,9 +21,9 @@ impl Board {
         requires loads_all { 2 * a + 2 ≤ length phases.now.words.now }
         requires ends_all { 2 * a + 2 ≤ length end.now }
         requires few_cores { at phases.now.core.now (2 * a) < 8 }
-        ensures free { self.new.free ≡ set self.old.free (at phases.now.core.now (2 * a)) (max (at self.old.free (at phases.now.core.now (2 * a))) (at end.now (2 * a + 1))) }
-        ensures closes { self.new.closes ≡ set (set self.old.closes (2 * a) (close_by phases.now.words.now end.now (2 * a))) (2 * a + 1) (close_by phases.now.words.now end.now (2 * a + 1)) }
-        ensures tops { self.new.tops ≡ set (set self.old.tops (2 * a + 1) (max (at self.old.tops (2 * a)) (close_by phases.now.words.now end.now (2 * a)))) (2 * a + 2) (max (max (at self.old.tops (2 * a)) (close_by phases.now.words.now end.now (2 * a))) (close_by phases.now.words.now end.now (2 * a + 1))) }
+        ensures free { self.new.free ≡ with_free self.old.free phases.now.core.now end.now a }
+        ensures closes { self.new.closes ≡ with_closes self.old.closes phases.now.words.now end.now a }
+        ensures tops { self.new.tops ≡ with_tops self.old.tops phases.now.words.now end.now a }
     {
         let x = 2 * a;
         let f = end[x + 1];

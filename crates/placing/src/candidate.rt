@@ -1,5 +1,4 @@
 // A candidate of the list rule, in columns.
-ghost use Rattle.std.specs.Prelude.{length};
 ghost use Rattle.placing.specs.Candidates.{Ready};
 
 use contention::EdgeColumns;

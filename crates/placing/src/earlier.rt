@@ -1,5 +1,5 @@
 // The search for an exclusive start, among the phases of the earlier places.
-ghost use Rattle.std.specs.Prelude.{◌≡◌, ℕ, ◌+◌, ◌^◌, ◌≤◌, ◌<◌, length};
+ghost use Rattle.std.specs.Prelude.{◌≡◌, ◌+◌, ◌^◌, ◌≤◌, ◌<◌, length};
 ghost use Rattle.model.specs.Below.{at, max_below};
 ghost use Rattle.model.specs.ListRule.{LeastFree};
 ghost use Rattle.contention.specs.Columns.{Sized};
@@ -109,7 +109,7 @@ impl Earlier<'_> {
         r.max(x).max(y.saturating_sub(read + cost))
     }
 
-    // The least start from `from` on at which the task meets none of the phases.
+    // The least start from `from` on at which the task meets none of the phases. A `loop`, since each start says which is next.
     pub fn exclusive_start(&self, task: Task, from: u32) -> u32
         requires fits { from + task.read + task.cost + task.write < 2 ^ 32 }
         requires ends_fit { max_below (at self.now.closes.now) (length self.now.core.now) + task.read + task.cost + task.write < 2 ^ 32 }

@@ -2,11 +2,11 @@
 // phase 2a is place a's read, 2a + 1 its write.
 #![tactic(auto)]
 
-ghost use Rattle.std.specs.Prelude.{◌≡◌, ◌++◌, ◌+◌, ◌*◌, ◌^◌, ◌≤◌, ◌<◌, length, drop, set};
+ghost use Rattle.std.specs.Prelude.{◌≡◌, ◌++◌, ◌+◌, ◌*◌, ◌^◌, ◌≤◌, ◌<◌, length, drop};
 ghost use Rattle.model.specs.Below.{at};
 ghost use Rattle.contention.specs.Columns.{start_column, end_column};
-ghost use Rattle.placing.specs.Candidates.{Chained, FewCores};
-ghost use Rattle.placing.specs.Starts.{sent_by, earliest_by, Freed, Closed, Prepared};
+ghost use Rattle.placing.specs.Candidates.{FewCores};
+ghost use Rattle.placing.specs.Starts.{sent_by, earliest_by, Freed, Closed, with_pair, Prepared};
 ghost use Rattle.placing.specs.Views.{as_candidate, placed_in, task_in, RoomIn, StartsIn};
 
 use crate::board::Board;
@@ -117,8 +117,8 @@ fn put_windows(cost: u32, lengths: &[u32], a: usize, r: u32, start: &mut [u32], 
     requires starts_all { 2 * a + 2 ≤ length start.old }
     requires ends_all { 2 * a + 2 ≤ length end.old }
     requires fits { r + at lengths.now (2 * a) + cost + at lengths.now (2 * a + 1) < 2 ^ 32 }
-    ensures starts { start.new ≡ set (set start.old (2 * a) r) (2 * a + 1) (r + at lengths.now (2 * a) + cost) }
-    ensures ends { end.new ≡ set (set end.old (2 * a) (r + at lengths.now (2 * a))) (2 * a + 1) (r + at lengths.now (2 * a) + cost + at lengths.now (2 * a + 1)) }
+    ensures starts { start.new ≡ with_pair start.old a r (r + at lengths.now (2 * a) + cost) }
+    ensures ends { end.new ≡ with_pair end.old a (r + at lengths.now (2 * a)) (r + at lengths.now (2 * a) + cost + at lengths.now (2 * a + 1)) }
 {
     let x = 2 * a;
     let e = r + lengths[x];
