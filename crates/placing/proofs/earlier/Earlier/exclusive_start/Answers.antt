@@ -1,13 +1,7 @@
--- `placing::exclusive_start` meets its contract. Every start that was passed clashes; the greatest end is not passed.
+-- `placing::earlier::Earlier::exclusive_start` meets its contract. Every start that was passed clashes; the greatest end is not passed.
 use Rattle.placing.proofs.Exclusive.{passed_on, passed_end}
 use native.Mathlib.Omega.{arith}
-use Rattle.placing.proofs.exclusive_start.Goals as goal
-
-pub loop-r-init : goal.loop-r-init
-loop-r-init c = (omega arith, omega arith, λ s l k. absurd (omega arith))
-
-pub next_start-next-requires : goal.next_start-next-requires
-next_start-next-requires c = (c.requires.0, c.requires.1, omega (arith, c.requires.2, c.requires.3, c.loop-r.invariant.1), λ y l. omega (arith, c.requires.4 y l, c.loop-r.invariant.0))
+use Rattle.placing.proofs.earlier.Earlier.exclusive_start.Goals as goal
 
 pub returns-then-next-r : goal.returns-then-next-r
 returns-then-next-r c = passed_end _ _ _ _ _ _ _ _ _ c.loop-r.invariant.0 c.loop-r.invariant.2 c.next_start-next.ensures c.if-next-r.true
