@@ -1,4 +1,2 @@
 pub mod Checks
 pub mod Ruling
-pub mod Phases
-pub mod Judging

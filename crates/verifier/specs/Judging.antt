@@ -1,39 +1,36 @@
 -- The judging of a plan's and a table's bytes, as far as the verifier and the bus run share it. Assumes nothing.
-use Rattle.std.specs.Prelude.{List, ℕ, Ok, Err}
-use Rattle.model.specs.Refusals.{or_else, first_bad, Outcome, and_then, Check}
-use Rattle.model.specs.Plan.{Plan, tasks, edges}
+use Rattle.std.specs.Prelude.{◌≡◌, ℕ, ◌*◌, ◌<◌, List, Ok, Err}
+use Rattle.model.specs.Refusals.{Outcome, passing, and_then}
+use Rattle.model.specs.Plan.{Plan, tasks}
 use Rattle.model.specs.Graph.{plan_of}
 use Rattle.model.specs.Table.{Table, of_numbers, table_of}
-use Rattle.model.specs.Contention.{phase_words}
-use Rattle.model.specs.Rules.{execute_at, edge_at, cross_from, rules_check, makespan}
+use Rattle.model.specs.Contention.{Phases, phases_of, phase_words}
+use Rattle.model.specs.Rules.{rules_check, makespan}
 use Rattle.model.specs.Answers.{onto, Judged, judged}
 use Rattle.contention.specs.Columns.{core_column, start_column, end_column}
-use Rattle.verifier.specs.declared.Judgement.{Judgement}
+use Rattle.verifier.specs.declared.Obeyed.{Obeyed}
 
--- the rules that need no phases: 12, 13, 14
-unfoldable pub spans_check : Plan → Table → Check
-spans_check p t =
-    or_else (first_bad (execute_at p t) (tasks p))
-    (or_else (first_bad (edge_at p t) (edges p))
-    (first_bad (cross_from p t) (tasks p)))
+-- phases h are those of a plan and a table
+pub record Shown (h : Phases) (p : Plan) (t : Table) : Type 0 where
+  pub count : h.count ≡ 2 * tasks p
+  pub core : (x : ℕ) → x < 2 * tasks p → h.core x ≡ (phases_of p t).core x
+  pub start : (x : ℕ) → x < 2 * tasks p → h.start x ≡ (phases_of p t).start x
+  pub end : (x : ℕ) → x < 2 * tasks p → h.end x ≡ (phases_of p t).end x
+  pub words : (x : ℕ) → x < 2 * tasks p → h.words x ≡ (phases_of p t).words x
 
--- what is said of a table that obeys every rule, and by what the rules found
-abbrev pub obeys : Plan → Table → Judgement
-obeys p t = Judgement.Obeys p.bus (tasks p) (record { 0 = makespan (tasks p) t })
+-- what is said of a table that obeys every rule
+abbrev pub obeys : Plan → Table → Obeyed
+obeys p t = record { bus = p.bus; tasks = tasks p; makespan = record { 0 = makespan (tasks p) t } }
 
-abbrev pub ruled_by : Plan → Table → Check → Judgement
-ruled_by p t (Ok tt) = obeys p t
-ruled_by p t (Err r) = Judgement.Refused r
-
-unfoldable pub ruled : Plan → Table → Judgement
-ruled p t = ruled_by p t (rules_check p t)
+unfoldable pub ruled : Plan → Table → Outcome Obeyed
+ruled p t = passing (rules_check p t) (obeys p t)
 
 -- the same from the bytes
-abbrev pub judgement_by : Outcome Judged → Judgement
-judgement_by (Ok j) = obeys j.plan (of_numbers j.table)
-judgement_by (Err r) = Judgement.Refused r
+abbrev pub judgement_by : Outcome Judged → Outcome Obeyed
+judgement_by (Ok j) = Ok (obeys j.plan (of_numbers j.table))
+judgement_by (Err r) = Err r
 
-unfoldable pub judgement_of : List ℕ → List ℕ → Judgement
+unfoldable pub judgement_of : List ℕ → List ℕ → Outcome Obeyed
 judgement_of p s = judgement_by (judged p s)
 
 -- ---- the phases, in columns lent for them: of bytes that read as a plan and a table

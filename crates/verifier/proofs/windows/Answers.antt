@@ -1,9 +1,13 @@
--- `verifier::windows` meets its contract. Each window by its delay.
-use mathlib.Core.Path.{◌∙◌}
+-- `verifier::windows` meets its contract: the phases in columns are the table's, with their delays.
+use Rattle.std.proofs.Common.{◌∙◌}
 use Rattle.verifier.proofs.Checks.{lasts_each}
+use Rattle.verifier.proofs.Ruling.{shown_loads, shown_windows}
 use Rattle.verifier.proofs.windows.Goals as goal
+
+pub phase_delays-requires-clause-loads : goal.phase_delays-requires-clause-loads
+phase_delays-requires-clause-loads c = shown_loads _ _ _ c.requires c.args.planned.now.valid
 
 pub returns : goal.returns
 returns c =
-    let a = c.args in
-    c.each_window.ensures ∙ lasts_each a.bus a.core.now a.start.now a.end.now a.words.now _ _ a.count c.requires.1.few c.phase_delays.ensures
+    c.each_window.ensures ∙ lasts_each _ _ _ _ _ _ _ _ c.args.phases.sized.few c.phase_delays.ensures
+    ∙ shown_windows _ _ _ c.requires c.args.planned.now.bus
