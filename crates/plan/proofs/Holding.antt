@@ -30,4 +30,3 @@ holds bytes r e g =
       targets = k.targets;
       amounts = k.amounts;
     }
-
