@@ -12,7 +12,7 @@ use Rattle.model.specs.Below.{at, join_below, max_below}
 use Rattle.model.specs.Contention.{Phases}
 use Rattle.model.specs.ListRule.{LeastFree}
 use Rattle.model.proofs.Tests.{either, conflict, lt_or_ge, same_or_not, and_no, or_none, or_left, or_right, cond_le}
-use Rattle.model.proofs.Below.{max_ge, max_le, max_mono, any_none, any_here}
+use Rattle.model.proofs.Below.{max_ge, max_le, max_mono, any_none, any_here, join_step}
 use Rattle.model.proofs.Placing.{meets, meets_after, meets_moved}
 use Rattle.contention.specs.Columns.{overlap_of, rival_of, rival_by, phases_by}
 use Rattle.placing.specs.Starts.{Task, end_met, met_until, clash_by, next_by}
@@ -199,3 +199,6 @@ module _ (core start end words : List ℕ) (count : ℕ) where
         (r x : ℕ) → from ≤ r → Passed r → x ≡ next_by core start end words count t r → x ≡ r
         → LeastFree (clash_by core start end words count t) from r
     passed_end r x l p q z = record { later = l; clear = next_none t r (sym q ∙ z); least = p }
+
+-- what the loop that looks for the greatest end meets
+pub ruleset untils = (idle_until, met_none, join_step)

@@ -21,11 +21,12 @@ use Rattle.model.proofs.Below.{max_ge, max_le, max_same, max_mono, join_step, an
 use Rattle.model.proofs.Contention.{half_even, of_even, of_odd}
 use Rattle.model.proofs.Placing.{meets, clashing, end_within, overlapping_start, exclusive_start_lem, starts_length, starts_stay, placed_start, placed_top, placed_within}
 use Rattle.model.proofs.Spans.{Limits, room_within}
-use Rattle.contention.specs.Columns.{overlap_of, rival_of, rival_by, Sized, start_column, end_column, back_to, close_of, near_by}
+use Rattle.contention.specs.Columns.{overlap_of, rival_of, rival_by, Sized, start_column, end_column, back_to, close_of, near_of, near_by}
 use Rattle.contention.proofs.Ranges.{back_le, back_over, near_rival}
 use Rattle.contention.proofs.Columns.{Column, column_is}
+use Rattle.contention.proofs.Rivalry.{front_count, sized_front}
 use Rattle.placing.specs.Candidates.{plan_by, candidate_by, Ready, FewCores}
-use Rattle.placing.specs.Starts.{free_by, sent_by, earliest_by, Freed, close_by, Closed, Task, task_at, clash_by, Starts, Room, Prepared}
+use Rattle.placing.specs.Starts.{free_by, sent_by, earliest_by, Freed, close_by, Closed, with_pair, with_free, with_closes, with_tops, Task, task_at, end_met, clash_by, Starts, Room, Prepared}
 
 -- ---- phases that are closed are met as before
 close_self : (x : ℕ) → x ≡ close_of x x
@@ -35,6 +36,17 @@ close_self x = either (ltb 0 x) (λ t. rw t) (λ t. rw t (omega (arith, ltb-fals
 module _ (core start closes : List ℕ) (y mine own from to : ℕ) where
   pub near_met : 0 < own → near_by core start closes mine from to y ≡ rival_by core start closes closes mine own from to y
   near_met h = near_rival core start closes mine from to y closes closes own h (close_self (at closes y))
+
+  -- the end that is met, by the test that code makes
+  pub met_here : 0 < own → near_of mine from to (at core y) (at start y) (at closes y) ≡ true
+      → at closes y ≡ end_met core start closes closes mine own from to y
+  unfolding near_by end_met
+  met_here h t = rw (sym (near_met h) ∙ t)
+
+  pub met_not : 0 < own → near_of mine from to (at core y) (at start y) (at closes y) ≡ false
+      → 0 ≡ end_met core start closes closes mine own from to y
+  unfolding near_by end_met
+  met_not h t = rw (sym (near_met h) ∙ t)
 
   idle_meets : (end words : List ℕ) → own ≡ 0 → rival_by core start end words mine own from to y ≡ false
   unfolding rival_by rival_of overlap_of
@@ -47,6 +59,8 @@ module _ (core start closes : List ℕ) (y mine own from to : ℕ) where
       lt_or_ge 0 own
       (λ h. sym (near_met h) ∙ near_rival core start closes mine from to y end words own h e)
       (λ h. idle_meets closes closes (omega arith) ∙ sym (idle_meets end words (omega arith)))
+
+pub ruleset meeting = (met_here, met_not)
 
 -- ---- one place, on columns
 module _ (costs sources targets links choices core words lengths start end : List ℕ) (a : ℕ)
@@ -83,54 +97,76 @@ module _ (costs sources targets links choices core words lengths start end : Lis
           max_mono (at closes) (at end) (2 * a)
           (λ y l. rw (w.closed y l) (cond_le (ltb 0 (at words y)) (le_refl (at end y)) zero-le))
 
-      clash_closed :
-          (t : Task) (r : ℕ) → clash_by core start closes closes (2 * a) t r ≡ clash_by core start end words (2 * a) t r
-      unfolding clash_by
-      clash_closed t r =
-          let e : ℕ = r + t.read in
-          let f : ℕ = e + t.cost in
-          any_same _ _ (2 * a)
-          (λ y l.
-          rw (
-            meet_closed core start closes y t.mine t.reads r e end words (w.closed y l),
-            meet_closed core start closes y t.mine t.writes f (f + t.write) end words (w.closed y l),
-          ))
+      -- the phases searched are the first ones
+      abbrev first : List ℕ
+      first = take (2 * a) core
 
-      pub starts_alone :
-          (r : ℕ) → at choices a % 2 ≡ 1 → LeastFree (clash_by core start closes closes (2 * a) (task_at costs core words lengths a)) from r
-          → Starts costs sources targets choices core words lengths start end a r
-      starts_alone r e f =
-          let t = task_at costs core words lengths a in
+      first_all : Sized core start closes closes (2 * a)
+      first_all =
           record {
-            overlapping = λ n. conflict (eq-eqb (at choices a % 2) 1 e) n;
-            alone =
-                λ _.
-                record {
-                  later = omega (arith, q, f.later);
-                  clear = sym (clash_closed t r) ∙ f.clear;
-                  least = λ x m n. sym (clash_closed t x) ∙ f.least x (omega (arith, q)) n;
-                };
+            few = omega (arith, room.few);
+            cores = omega (arith, room.cores_all);
+            starts = omega (arith, room.starts_all);
+            ends = omega (arith, room.few, w.closes_all);
+            loads = omega (arith, room.few, w.closes_all);
           }
 
-      pub ready_alone :
-          (low : ℕ) → low ≡ back_to tops from (2 * a)
-          → Sized core start closes closes (2 * a) × (low ≤ 2 * a)
-          × (from + at lengths (2 * a) + at costs a + at lengths (2 * a + 1) < 4294967296)
-          × (max_below (at closes) (2 * a) + at lengths (2 * a) + at costs a + at lengths (2 * a + 1) < 4294967296)
-          × ((y : ℕ) → y < low → at closes y ≤ from)
-      ready_alone low b = (
-        record {
-          few = omega (arith, room.few);
-          cores = omega (arith, room.cores_all);
-          starts = omega (arith, room.starts_all);
-          ends = omega (arith, room.few, w.closes_all);
-          loads = omega (arith, room.few, w.closes_all);
-        },
-        omega (arith, b, back_le tops from (2 * a)),
-        omega (arith, q, free_top, sent_top, room.fits),
-        omega (arith, closes_within, room.fits),
-        λ y l. back_over tops from (at closes) (2 * a) (λ x k z m. w.topped x z k m) y (omega (arith, b)),
-      )
+      first_count : length first ≡ 2 * a
+      first_count = front_count core start closes closes (2 * a) first_all
+
+      meet_first :
+          (mine own from to y : ℕ) → y < 2 * a
+          → rival_by first start closes closes mine own from to y ≡ rival_by core start end words mine own from to y
+      unfolding rival_by
+      meet_first mine own from to y l =
+          ap
+          (λ (m : ℕ). rival_of mine own from to m (at closes y) (at start y) (at closes y))
+          (get_or-take (2 * a) core y 0 l)
+          ∙ meet_closed core start closes y mine own from to end words (w.closed y l)
+
+      clash_first :
+          (t : Task) (r : ℕ) → clash_by first start closes closes (length first) t r ≡ clash_by core start end words (2 * a) t r
+      unfolding clash_by
+      clash_first t r =
+          let e : ℕ = r + t.read in
+          let f : ℕ = e + t.cost in
+          rw first_count
+          (any_same _ _ (2 * a)
+          (λ y l. rw (meet_first t.mine t.reads r e y l, meet_first t.mine t.writes f (f + t.write) y l)))
+
+      pub first_sized : Sized first start closes closes (length first)
+      first_sized = sized_front core start closes closes (2 * a) first_all
+
+      module _ (low : ℕ) (b : low ≡ back_to tops from (2 * a)) where
+        pub low_within : low ≤ length first
+        low_within = omega (arith, b, first_count, back_le tops from (2 * a))
+
+        pub low_over : (y : ℕ) → y < low → at closes y ≤ from
+        low_over y l = back_over tops from (at closes) (2 * a) (λ x k z m. w.topped x z k m) y (omega (arith, b))
+
+      module _ (t : Task) (e : t ≡ task_at costs core words lengths a) where
+        pub start_within : from + t.read + t.cost + t.write < 4294967296
+        start_within = rw e (omega (arith, q, free_top, sent_top, room.fits))
+
+        pub closes_fit : max_below (at closes) (length first) + t.read + t.cost + t.write < 4294967296
+        closes_fit = rw (e, first_count) (omega (arith, closes_within, room.fits))
+
+        pub starts_alone :
+            (r : ℕ) → at choices a % 2 ≡ 1 → LeastFree (clash_by first start closes closes (length first) t) from r
+            → Starts costs sources targets choices core words lengths start end a r
+        starts_alone r o f =
+            let g = rw e at f in
+            let s = task_at costs core words lengths a in
+            record {
+              overlapping = λ n. conflict (eq-eqb (at choices a % 2) 1 o) n;
+              alone =
+                  λ _.
+                  record {
+                    later = omega (arith, q, g.later);
+                    clear = sym (clash_first s r) ∙ g.clear;
+                    least = λ x m n. sym (clash_first s x) ∙ g.least x (omega (arith, q)) n;
+                  };
+            }
 
 -- ---- two entries stored
 module _ (l : List ℕ) (i j u v : ℕ) (apart : i < j) (room : j < length l) where
@@ -149,9 +185,9 @@ module _ (l : List ℕ) (i j u v : ℕ) (apart : i < j) (room : j < length l) wh
 -- ---- a column with the two phases of one more place
 column_pair :
     (f : ℕ → ℕ) (a : ℕ) (old new : List ℕ) (u v : ℕ) → 2 * a + 2 ≤ length old → Column f (2 * a) old new → u ≡ f (2 * a)
-    → v ≡ f (2 * a + 1) → Column f (2 * (a + 1)) old (set (set new (2 * a) u) (2 * a + 1) v)
+    → v ≡ f (2 * a + 1) → Column f (2 * (a + 1)) old (with_pair new a u v)
 column_pair f a old new u v room c p q =
-    let two = set (set new (2 * a) u) (2 * a + 1) v in
+    let two = with_pair new a u v in
     let near : 2 * a < 2 * a + 1 = omega arith in
     let fits : 2 * a + 1 < length new = omega (arith, c.long) in
     let other = pair_other new (2 * a) (2 * a + 1) u v near fits in
@@ -191,7 +227,7 @@ closed_none words end =
 module _ (core words end end' : List ℕ) (a : ℕ) (same : (y : ℕ) → y < 2 * a → at end' y ≡ at end y) where
   pub freed_more :
       (free free' : List ℕ) → Freed core end free a → at core (2 * a) < 8
-      → free' ≡ set free (at core (2 * a)) (max (at free (at core (2 * a))) (at end' (2 * a + 1)))
+      → free' ≡ with_free free core end' a
       → Freed core end' free' (a + 1)
   unfolding free_by
   freed_more free free' w few e =
@@ -213,8 +249,8 @@ module _ (core words end end' : List ℕ) (a : ℕ) (same : (y : ℕ) → y < 2 
 
   pub closed_more :
       (closes tops closes' tops' : List ℕ) → a < 64 → Closed words end closes tops a
-      → closes' ≡ set (set closes (2 * a) (close_by words end' (2 * a))) (2 * a + 1) (close_by words end' (2 * a + 1))
-      → tops' ≡ set (set tops (2 * a + 1) (max (at tops (2 * a)) (close_by words end' (2 * a)))) (2 * a + 2) (max (max (at tops (2 * a)) (close_by words end' (2 * a))) (close_by words end' (2 * a + 1)))
+      → closes' ≡ with_closes closes words end' a
+      → tops' ≡ with_tops tops words end' a
       → Closed words end' closes' tops' (a + 1)
   closed_more closes tops closes' tops' few w p q =
       let u : ℕ = close_by words end' (2 * a) in
@@ -478,8 +514,8 @@ module _ (bus : Bus) (costs sources targets amounts links choices core words len
 
       pub done_more :
           (start' end' : List ℕ)
-          → start' ≡ set (set start (2 * a) r) (2 * a + 1) (r + at lengths (2 * a) + at costs a)
-          → end' ≡ set (set end (2 * a) (r + at lengths (2 * a))) (2 * a + 1) (r + at lengths (2 * a) + at costs a + at lengths (2 * a + 1))
+          → start' ≡ with_pair start a r (r + at lengths (2 * a) + at costs a)
+          → end' ≡ with_pair end a (r + at lengths (2 * a)) (r + at lengths (2 * a) + at costs a + at lengths (2 * a + 1))
           → Done t start₀ end₀ start' end' (a + 1)
       unfolding placed
       done_more start' end' p q =

@@ -1,2 +1,3 @@
 pub mod Candidates
 pub mod Starts
+pub mod Views

@@ -1,11 +1,16 @@
 -- Step 2 of the list rule on columns: cores, words, lengths and windows by phase, execute times and choices by place, and the
 -- chains of edges. Assumes nothing.
-use Rattle.std.specs.Prelude.{ℕ, ◌+◌, ◌*◌, ◌-◌, ◌/◌, ◌≤◌, ◌<◌, max, ◌≡◌, Bool, true, false, cond, ◌||◌, List, length, eqb}
+use Rattle.std.specs.Prelude.{ℕ, ◌+◌, ◌*◌, ◌-◌, ◌/◌, ◌≤◌, ◌<◌, max, ◌≡◌, Bool, true, false, cond, ◌||◌, List, length, set, eqb}
 use Rattle.model.specs.Below.{at, max_below, any_below}
 use Rattle.model.specs.Plan.{tasks}
 use Rattle.model.specs.ListRule.{Candidate, core_in, exclusive, LeastFree}
 use Rattle.contention.specs.Columns.{rival_by, close_of}
 use Rattle.placing.specs.Candidates.{Chained}
+pub use Rattle.placing.specs.declared.earlier.Task.{Task}
+
+-- a column with these entries for the read and the write of place a
+abbrev pub with_pair : List ℕ → ℕ → ℕ → ℕ → List ℕ
+with_pair l a read write = set (set l (2 * a) read) (2 * a + 1) write
 
 -- ---- "not before the F of any source or of any earlier-listed task on its core"
 -- the greatest F of the first a places on core `mine`
@@ -35,16 +40,20 @@ pub record Closed (words end closes tops : List ℕ) (a : ℕ) : Type 0 where
   pub closed : (y : ℕ) → y < 2 * a → at closes y ≡ close_by words end y
   pub topped : (y z : ℕ) → y ≤ 2 * a → z < y → at closes z ≤ at tops y
 
--- ---- "the least such time at which neither of its phases overlaps a phase of an earlier-listed task on another core"
--- a task to be placed: its core, the words of its phases, and the lengths of its three windows
-pub record Task : Type 0 where
-  pub mine : ℕ
-  pub reads : ℕ
-  pub writes : ℕ
-  pub read : ℕ
-  pub cost : ℕ
-  pub write : ℕ
+-- when place a stands: its core is free from its F on, its phases close, and the greatest close is known before the next ones
+abbrev pub with_free : List ℕ → List ℕ → List ℕ → ℕ → List ℕ
+with_free free core end a = set free (at core (2 * a)) (max (at free (at core (2 * a))) (at end (2 * a + 1)))
 
+abbrev pub with_closes : List ℕ → List ℕ → List ℕ → ℕ → List ℕ
+with_closes closes words end a = with_pair closes a (close_by words end (2 * a)) (close_by words end (2 * a + 1))
+
+abbrev pub with_tops : List ℕ → List ℕ → List ℕ → ℕ → List ℕ
+with_tops tops words end a =
+    let top = max (at tops (2 * a)) (close_by words end (2 * a)) in
+    set (set tops (2 * a + 1) top) (2 * a + 2) (max top (close_by words end (2 * a + 1)))
+
+-- ---- "the least such time at which neither of its phases overlaps a phase of an earlier-listed task on another core"
+-- the numbers of a task to be placed
 abbrev pub task : ℕ → ℕ → ℕ → ℕ → ℕ → ℕ → Task
 task mine reads writes read cost write =
     record { mine = mine; reads = reads; writes = writes; read = read; cost = cost; write = write }

@@ -4,7 +4,6 @@ use mathlib.Core.List.{List, ◌++◌}
 use Prim.Native.Nat.{ℕ, ◌*◌, ◌≤◌}
 use native.Mathlib.Omega.{arith}
 use lib.ListN.{length, take, drop}
-use Rattle.model.specs.Below.{at}
 use Rattle.model.specs.Plan.{tasks, cores}
 use Rattle.model.specs.Table.{of_numbers}
 use Rattle.model.specs.BusRule.{answers}
@@ -13,13 +12,17 @@ use Rattle.model.specs.declared.Bus.{Bus}
 use Rattle.model.specs.declared.Refusal.{Refusal}
 use Rattle.model.proofs.Below.{list_length}
 use Rattle.model.proofs.Contention.{phase_words_length}
-use Rattle.contention.specs.Columns.{phases_by}
+use Rattle.contention.specs.Columns.{phases_by, Sized}
 use Rattle.verifier.specs.Judging.{column_of, phase_cores, phase_starts, phase_ends, phase_loads}
-use Rattle.bus.specs.Playing.{Playable}
+use Rattle.bus.specs.Playing.{use_of, Playable}
 use Rattle.run.specs.Checks.{run_by}
+<<<<<<< HEAD
 use Rattle.run.proofs.Ways.{Obeyed, Ruled, ruled_is, front_room, front_cores, front_starts, front_ends, front_loads, playable, Answered, unplayed, served_good, words_long, words_within, room_good, played}
 use Rattle.std.specs.Prelude.{Ok, Err}
 use Rattle.model.specs.Refusals.{Check}
+=======
+use Rattle.run.proofs.Ways.{Obeyed, Ruled, ruled_is, front_room, front_cores, front_starts, front_ends, front_loads, columns_sized, playable, Answered, unplayed, served_good, words_long, words_within, room_good, played}
+>>>>>>> 34ef3d918187404210290ae7d8075cad8add13c4
 
 module _ (p s : List ℕ) {bus : Bus} {n : ℕ} (o : Obeyed (judged p s) bus n) where
   rule : Ruled o.j
@@ -58,6 +61,12 @@ module _ (p s : List ℕ) {bus : Bus} {n : ℕ} (o : Obeyed (judged p s) bus n) 
       pub few_loads : length (take (2 * n) most) ≤ 128
       few_loads = rw at_loads (omega (arith, phase_words_length o.j.plan (of_numbers o.j.table).core, rule.valid.ranges.few_tasks))
 
+      front_length : length (phase_cores o.j.plan (of_numbers o.j.table)) ≡ 2 * tasks o.j.plan
+      front_length = list_length _ (2 * tasks o.j.plan)
+
+      pub sized_at : Sized (take (2 * n) core) (take (2 * n) start) (take (2 * n) end) (take (2 * n) most) (length (take (2 * n) core))
+      sized_at = rw (at_cores, at_starts, at_ends, at_loads) (columns_sized o.j rule)
+
       module _ (served : ℕ) (words out : List ℕ) (x : Check) (q : x ≡ run_by bus.cores served (take (2 * n) most) words (length out)) where
         found : x ≡ run_by (cores o.j.plan) served (phase_loads o.j.plan (of_numbers o.j.table)) words (length out)
         found = rw (o.bus_is, at_loads) at q
@@ -65,6 +74,7 @@ module _ (p s : List ℕ) {bus : Bus} {n : ℕ} (o : Obeyed (judged p s) bus n) 
         pub unplayed_at : {r : Refusal} → x ≡ Err r → Answered p s served words out (Err r) out
         unplayed_at = unplayed p s served words out o.j o.given x found
 
+<<<<<<< HEAD
         module _ (g : x ≡ (Ok tt)) where
           pub playable_at : Playable bus (take (2 * n) core) (take (2 * n) start) (take (2 * n) end) (take (2 * n) most) words served × (2 * length words ≤ length out)
           playable_at = (
@@ -83,5 +93,27 @@ module _ (p s : List ℕ) {bus : Bus} {n : ℕ} (o : Obeyed (judged p s) bus n) 
           pub played_at : (out' : List ℕ)
               → out' ≡ answers bus (phases_by (take (2 * n) core) (take (2 * n) start) (take (2 * n) end) (take (2 * n) most) (length words)) (record { served = served; actual = at words }) ++ drop (2 * length words) out
               → Answered p s served words out (Ok tt) out'
+=======
+        module _ (g : x ≡ Good) where
+          pub playable_at : Playable bus (phases_by (take (2 * n) core) (take (2 * n) start) (take (2 * n) end) (take (2 * n) most) (length (take (2 * n) core))) served words
+          playable_at =
+              rw (o.bus_is, at_cores, at_starts, at_ends, at_loads, front_length)
+              (playable o.j rule served words
+              (served_good p s served words out o.j o.given x found g)
+              (words_long p s served words out o.j o.given x found g)
+              (words_within p s served words out o.j o.given x found g))
+
+          pub room_at : 2 * length words ≤ length out
+          room_at =
+              omega (
+                arith,
+                words_long p s served words out o.j o.given x found g,
+                room_good p s served words out o.j o.given x found g,
+              )
+
+          pub played_at : (out' : List ℕ)
+              → out' ≡ answers bus (phases_by (take (2 * n) core) (take (2 * n) start) (take (2 * n) end) (take (2 * n) most) (length (take (2 * n) core))) (use_of served words) ++ drop (2 * length words) out
+              → Answered p s served words out Played.Finished out'
+>>>>>>> 34ef3d918187404210290ae7d8075cad8add13c4
           played_at out' e =
-              played p s served words out o.j o.given x found g rule out' (rw (o.bus_is, at_cores, at_starts, at_ends, at_loads) at e)
+              played p s served words out o.j o.given x found g rule out' (rw (o.bus_is, at_cores, at_starts, at_ends, at_loads, front_length) at e)

@@ -29,7 +29,7 @@ use Rattle.model.proofs.RoundTrip.{blocks_length, InRange}
 use Rattle.model.proofs.Rules.{good_of}
 use Rattle.model.proofs.Graph.{plan_read_lem}
 use Rattle.model.proofs.SameRun.{answers_same}
-use Rattle.contention.specs.Columns.{phases_by}
+use Rattle.contention.specs.Columns.{phases_by, Sized}
 use Rattle.guarantee.proofs.Lasting.{Accepted}
 use Rattle.guarantee.proofs.Guarantee.{by_phases, by_rivals}
 use Rattle.guarantee.proofs.Demand.{accepted}
@@ -37,7 +37,7 @@ use Rattle.guarantee.proofs.Alike.{accepted_alike}
 use Rattle.guarantee.proofs.Verified.{read_in_range}
 use Rattle.verifier.specs.Judging.{judgement_by, judgement_of, column_of, phase_cores, phase_starts, phase_ends, phase_loads}
 use Rattle.verifier.specs.declared.Judgement.{Judgement}
-use Rattle.bus.specs.Playing.{Playable}
+use Rattle.bus.specs.Playing.{use_of, Playable}
 use Rattle.run.specs.Checks.{over_at, words_by, run_by}
 use Rattle.std.specs.Prelude.{Ok, Err}
 
@@ -137,6 +137,17 @@ module _ (j : Judged) (r : Ruled j) where
         words = λ x l. refl;
       }
 
+  pub columns_sized : Sized (phase_cores plan table) (phase_starts plan table) (phase_ends plan table) (phase_loads plan table) (length (phase_cores plan table))
+  columns_sized =
+      rw (list_length (λ x. table.core (x / 2)) (2 * tasks plan))
+      (record {
+        few = omega (arith, r.valid.ranges.few_tasks);
+        cores = omega (arith, list_length (λ x. table.core (x / 2)) (2 * tasks plan));
+        starts = omega (arith, list_length (of_phase table.R table.W) (2 * tasks plan));
+        ends = omega (arith, list_length (of_phase table.E table.F) (2 * tasks plan));
+        loads = omega (arith, phase_words_length plan table.core);
+      })
+
   module _ (served : ℕ) (words : List ℕ) where
     abbrev given : Use
     given = record { served = served; actual = at words }
@@ -145,24 +156,16 @@ module _ (j : Judged) (r : Ruled j) where
       ok : Accepted plan.bus columns (by_rivals plan.bus columns)
       ok = accepted_alike plan.bus (phases_of plan table) columns agree r.accepts
 
-      pub playable : Playable plan.bus (phase_cores plan table) (phase_starts plan table) (phase_ends plan table) (phase_loads plan table) words served
+      pub playable : Playable plan.bus columns served words
       unfolding declared
       playable =
           record {
             settings = r.valid.settings;
-            sized =
-                rw long
-                (record {
-                  few = omega (arith, r.valid.ranges.few_tasks);
-                  cores = omega (arith, list_length (λ x. table.core (x / 2)) (2 * tasks plan));
-                  starts = omega (arith, list_length (of_phase table.R table.W) (2 * tasks plan));
-                  ends = omega (arith, list_length (of_phase table.E table.F) (2 * tasks plan));
-                  loads = omega (arith, phase_words_length plan table.core);
-                });
-            placed = rw long ok.core_within;
+            counted = long;
+            placed = ok.core_within;
             served_known = known;
-            within = rw long within;
-            kept = rw long (by_phases plan.bus columns given (record { served_in = known; declared = within }) ok);
+            within = within;
+            kept = by_phases plan.bus columns given (record { served_in = known; declared = within }) ok;
           }
 
       pub answers_columns : answers plan.bus columns given ≡ answers plan.bus (phases_of plan table) given
@@ -246,7 +249,7 @@ module _ (p s : List ℕ) (served : ℕ) (words out : List ℕ) where
         room_good = ltb-false (length out) (4 * tasks j.plan) (not_refused (ltb (length out) (4 * tasks j.plan)) _ behind.1)
 
         pub played : (r : Ruled j) (out' : List ℕ)
-            → out' ≡ answers j.plan.bus (phases_by (phase_cores j.plan (of_numbers j.table)) (phase_starts j.plan (of_numbers j.table)) (phase_ends j.plan (of_numbers j.table)) most (length words)) (record { served = served; actual = at words }) ++ drop (2 * length words) out
+            → out' ≡ answers j.plan.bus (phases_by (phase_cores j.plan (of_numbers j.table)) (phase_starts j.plan (of_numbers j.table)) (phase_ends j.plan (of_numbers j.table)) most (2 * tasks j.plan)) (use_of served words) ++ drop (2 * length words) out
             → Answered (Ok tt) out'
         unfolding played_of played_output playing
         played r out' eo =

@@ -7,6 +7,7 @@ ghost use Rattle.model.specs.Refusals.{refuse_if};
 ghost use Rattle.model.specs.Answers.{played_of, played_output};
 ghost use Rattle.run.specs.Checks.{over_at, words_by, run_by};
 
+use contention::PhaseColumns;
 use model::{Check, Fault, Played, Refusal, Side};
 use verifier::Judgement;
 
@@ -91,16 +92,13 @@ pub fn run(plan: &[u8], table: &[u8], served: u32, words: &[u32], out: &mut [u32
             if let Check::Bad(r) = checked {
                 return Played::Refused(r);
             }
-            bus::play(
-                bus,
-                &core[..count],
-                &start[..count],
-                &end[..count],
-                &most[..count],
-                words,
-                served,
-                out,
-            );
+            let phases = PhaseColumns {
+                core: &core[..count],
+                start: &start[..count],
+                end: &end[..count],
+                words: &most[..count],
+            };
+            bus::play(bus, phases, words, served, out);
             Played::Finished
         }
         Judgement::Refused(r) => Played::Refused(r),

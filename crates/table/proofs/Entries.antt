@@ -1,23 +1,19 @@
 -- What the numbers are that a writer is given, where its checks let them pass. Assumes nothing.
-use mathlib.Core.Path.{◌≡◌, sym, ◌∙◌}
+use mathlib.Core.Path.{◌≡◌}
 use mathlib.Core.Bool.{not}
-use mathlib.Core.List.{List, ◌++◌}
+use mathlib.Core.List.{List}
 use Prim.Native.Nat.{ℕ, ◌*◌, ◌≤◌, ◌<◌}
-use lib.ListN.{length, drop}
-use borrow.Author.Tests.{lt-ltb, le-ltb, ne_eqb, eq-eqb, eqb-true, not-false, leb-false}
+use native.Mathlib.Omega.{arith}
+use lib.ListN.{length}
+use borrow.Author.Tests.{eqb-true, not-false, leb-false}
 use lib.Dec.{eqb, leb}
+use Rattle.model.specs.Below.{at}
 use Rattle.model.specs.Refusals.{refusal, refuse_if, first_bad, Check}
-use Rattle.model.specs.Plan.{Plan, tasks, cores}
-use Rattle.model.specs.Graph.{plan_of}
-use Rattle.model.specs.Table.{of_numbers, of_bytes, numbers_at, numbers, bytes_at, bytes, non_falling, values_of, values_at, rows_check, table_of, values_check}
-use Rattle.model.specs.Answers.{room, decoding, decoded_of, decoded_output, writing, written_of, written_output}
-use Rattle.model.specs.declared.Fault.TheVariants.{OutputShort, FieldCount, CoreUnknown, MarksFalling}
-use Rattle.model.specs.declared.Side.TheVariants.{OfNeither, OfTable}
-use Rattle.model.specs.declared.Refusal.{Refusal}
+use Rattle.model.specs.Table.{of_numbers, non_falling, values_of, values_at, values_check}
+use Rattle.model.specs.declared.Fault.TheVariants.{FieldCount, CoreUnknown, MarksFalling}
+use Rattle.model.specs.declared.Side.TheVariants.{OfTable}
 use Rattle.model.proofs.Refusals.{or_good, not_refused, first_each}
-use Rattle.model.proofs.RoundTrip.{blocks_length}
-use Rattle.table.proofs.Rows.{field_long, numbers_long}
-use Rattle.std.specs.Prelude.{Ok, Err}
+use Rattle.std.specs.Prelude.{Ok}
 
 module _ (cs n : ℕ) (v : List ℕ) where
   -- what good numbers are
@@ -48,4 +44,3 @@ module _ (cs n : ℕ) (v : List ℕ) where
 -- a bus has 8 cores at most
 pub given_byte : (cs n : ℕ) (v : List ℕ) → values_check cs n v ≡ Ok tt → cs ≤ 8 → (i : ℕ) → i < n → at v (5 * i) < 256
 given_byte cs n v g h i l = omega (arith, given_core cs n v g i l)
-

@@ -50,6 +50,7 @@ module _ (t : Table) (l₀ : List ℕ) where
   bytes_end l n h e = blocks_end (bytes_at t) 20 (field_long t) l₀ l n n (omega arith) (omega arith) h e
 
 pub ruleset number_blocks = (numbers_none, numbers_more, numbers_end)
+
 pub ruleset byte_blocks = (bytes_none, bytes_more, bytes_end)
 
 -- five runs in a row: l₁ .. l₅ are what the calls left

@@ -1,14 +1,11 @@
--- `bus::play` meets its contract. The run, with columns of its own.
-use mathlib.Core.Path.{sym, ◌∙◌}
+-- `bus::play` meets its contract. The columns before the first grant (proofs/Opening.antt).
+use Rattle.std.proofs.Common.{sym, arith}
 use Rattle.model.proofs.Below.{take_count}
-use native.Mathlib.Omega.{arith}
+use Rattle.bus.proofs.Opening.{opened_by}
 use Rattle.bus.proofs.play.Goals as goal
 
-pub slice_bounds-play_with-end : goal.slice_bounds-play_with-end
-slice_bounds-play_with-end c = take_count _ _ (omega arith)
-
-pub slice_bounds-play_with-end-2 : goal.slice_bounds-play_with-end-2
-slice_bounds-play_with-end-2 c = take_count _ _ (omega arith)
-
-pub play_with-requires : goal.play_with-requires
-play_with-requires c = (c.requires.0, c.requires.1, sym (take_count _ _ (omega arith)), sym (take_count _ _ (omega arith)) ∙ c.index-cores.ensures)
+pub grants-requires-clause-opened : goal.grants-requires-clause-opened
+grants-requires-clause-opened c =
+    let f = c.fill_heads.ensures in
+    rw (f.phases)
+    (opened_by _ _ _ _ _ _ _ _ _ _ c.requires.room f.left c.copy_from_slice.ensures.after f.heads (sym (take_count _ _ (omega arith))) c.open_answers.ensures)

@@ -1,6 +1,6 @@
 -- `run::run` meets its contract. By what judging and the checks found, and what is played.
 use Rattle.run.proofs.Ways.{obeyed, unjudged}
-use Rattle.run.proofs.Entry.{few, room_cores, room_starts, room_ends, room_loads, few_loads, unplayed_at, playable_at, played_at}
+use Rattle.run.proofs.Entry.{few, room_cores, room_starts, room_ends, room_loads, few_loads, unplayed_at, sized_at, playable_at, room_at, played_at}
 use Rattle.model.proofs.Below.{take_count}
 use native.Mathlib.Omega.{arith}
 use Rattle.run.proofs.run.Goals as goal
@@ -40,8 +40,8 @@ slice_bounds-core-end c =
     let o = obeyed c.args.plan.now c.args.table.now _ j.ensures.answer c.in-Obeys.is in
     room_cores _ _ o _ _ j.ensures.phases.0
 
-pub slice_bounds-play-end : goal.slice_bounds-play-end
-slice_bounds-play-end c =
+pub slice_bounds-phases-end : goal.slice_bounds-phases-end
+slice_bounds-phases-end c =
     let j = c.judge in
     let o = obeyed c.args.plan.now c.args.table.now _ j.ensures.answer c.in-Obeys.is in
     take_count _ _ (room_cores _ _ o _ _ j.ensures.phases.0)
@@ -52,8 +52,8 @@ slice_bounds-start-end c =
     let o = obeyed c.args.plan.now c.args.table.now _ j.ensures.answer c.in-Obeys.is in
     room_starts _ _ o _ _ j.ensures.phases.1
 
-pub slice_bounds-play-end-in-Obeys : goal.slice_bounds-play-end-in-Obeys
-slice_bounds-play-end-in-Obeys c =
+pub slice_bounds-phases-end-in-Obeys : goal.slice_bounds-phases-end-in-Obeys
+slice_bounds-phases-end-in-Obeys c =
     let j = c.judge in
     let o = obeyed c.args.plan.now c.args.table.now _ j.ensures.answer c.in-Obeys.is in
     take_count _ _ (room_starts _ _ o _ _ j.ensures.phases.1)
@@ -64,8 +64,8 @@ slice_bounds-end-end c =
     let o = obeyed c.args.plan.now c.args.table.now _ j.ensures.answer c.in-Obeys.is in
     room_ends _ _ o _ _ j.ensures.phases.2
 
-pub slice_bounds-play-end-in-Obeys-2 : goal.slice_bounds-play-end-in-Obeys-2
-slice_bounds-play-end-in-Obeys-2 c =
+pub slice_bounds-phases-end-in-Obeys-2 : goal.slice_bounds-phases-end-in-Obeys-2
+slice_bounds-phases-end-in-Obeys-2 c =
     let j = c.judge in
     let o = obeyed c.args.plan.now c.args.table.now _ j.ensures.answer c.in-Obeys.is in
     take_count _ _ (room_ends _ _ o _ _ j.ensures.phases.2)
@@ -76,17 +76,29 @@ slice_bounds-most-end-in-Obeys c =
     let o = obeyed c.args.plan.now c.args.table.now _ j.ensures.answer c.in-Obeys.is in
     room_loads _ _ o _ _ j.ensures.phases.3
 
-pub slice_bounds-play-end-in-Obeys-3 : goal.slice_bounds-play-end-in-Obeys-3
-slice_bounds-play-end-in-Obeys-3 c =
+pub slice_bounds-phases-end-in-Obeys-3 : goal.slice_bounds-phases-end-in-Obeys-3
+slice_bounds-phases-end-in-Obeys-3 c =
     let j = c.judge in
     let o = obeyed c.args.plan.now c.args.table.now _ j.ensures.answer c.in-Obeys.is in
     take_count _ _ (room_loads _ _ o _ _ j.ensures.phases.3)
 
-pub play-requires : goal.play-requires
-play-requires c =
+pub play-requires-clause-playable : goal.play-requires-clause-playable
+play-requires-clause-playable c =
     let j = c.judge in
     let o = obeyed c.args.plan.now c.args.table.now _ j.ensures.answer c.in-Obeys.is in
     playable_at _ _ o _ _ _ _ _ _ _ _ j.ensures.phases c.args.served _ c.args.out.now _ c.run_check-checked.ensures c.in_default.is
+
+pub play-requires-clause-room : goal.play-requires-clause-room
+play-requires-clause-room c =
+    let j = c.judge in
+    let o = obeyed c.args.plan.now c.args.table.now _ j.ensures.answer c.in-Obeys.is in
+    room_at _ _ o _ _ _ _ _ _ _ _ j.ensures.phases c.args.served _ c.args.out.now _ c.run_check-checked.ensures c.in_default.is
+
+pub invariant_of-phases : goal.invariant_of-phases
+invariant_of-phases c =
+    let j = c.judge in
+    let o = obeyed c.args.plan.now c.args.table.now _ j.ensures.answer c.in-Obeys.is in
+    record { sized = sized_at _ _ o _ _ _ _ _ _ _ _ j.ensures.phases }
 
 pub returns-in_default : goal.returns-in_default
 returns-in_default c =

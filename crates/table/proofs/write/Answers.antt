@@ -9,4 +9,9 @@ pub put_rows-requires : goal.put_rows-requires
 put_rows-requires c =
     let h = c.in_ok-columns.ensures.planned in
     let g = sym c.in_ok-numbers_check.ensures in
-    (h.few_tasks, omega (arith, given_length _ _ _ g), grind (arith, common_steps), λ i l. given_byte _ _ _ g (omega (arith, h.valid.settings.cores_most, ap (λ (b : Bus). b.cores) h.bus)) i l)
+    let cores = ap (λ (b : Bus). b.cores) h.bus in (
+      omega (arith, h.few_tasks),
+      omega (arith, given_length _ _ _ g),
+      grind (arith, common_steps),
+      λ i l. given_byte _ _ _ g (omega (arith, h.valid.settings.cores_most, cores)) i (omega (arith, l)),
+    )

@@ -1,0 +1,25 @@
+// A candidate of the list rule, in columns.
+ghost use Rattle.placing.specs.Candidates.{Ready};
+
+use contention::EdgeColumns;
+use model::Bus;
+
+// A candidate: of each place its execute time and its choice, 2 * core + 1 if it is exclusive, else 2 * core; the edges
+// between places, and the chains of the edges to each place.
+#[derive(Clone, Copy)]
+pub struct Candidate<'a> {
+    pub bus: Bus,
+    pub costs: &'a [u32],
+    pub edges: EdgeColumns<'a>,
+    pub links: &'a [u16],
+    pub choices: &'a [u32],
+    pub ghost ready: { Ready bus costs.now edges.sources.now edges.targets.now edges.amounts.now links.now choices.now },
+}
+
+// Of each phase its core, its words and the length of its window.
+#[derive(Clone, Copy)]
+pub struct PhaseLoads<'a> {
+    pub core: &'a [u32],
+    pub words: &'a [u32],
+    pub lengths: &'a [u32],
+}
