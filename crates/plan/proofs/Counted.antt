@@ -1,17 +1,17 @@
 -- Edges that are counted: the loops of `waiting` and `release`, and where the next task is looked for.
 -- Assumes nothing.
-use mathlib.Core.Path.{◌≡◌, refl, sym, ap, ◌∙◌}
+use mathlib.Core.Path.{◌≡◌, refl, ap, ◌∙◌}
 use mathlib.Core.Bool.{Bool, false, ◌&&◌}
 use mathlib.Core.List.{List}
 use Prim.Native.Nat.{ℕ, zero, suc, ◌+◌, ◌-◌, ◌≤◌, ◌<◌, min}
 use native.Mathlib.Omega.{arith}
 use lib.Dec.{eqb}
 use lib.ListN.{length, set, length-set}
-use lib.Seq.{get_or-set_same, get_or-set_other}
+use lib.Seq.{get_or-set_other}
 use Rattle.std.proofs.lemmas.Grind.{common_steps}
 use borrow.Author.Tests.{eq-eqb, ne_eqb}
 use Rattle.model.specs.Below.{join_below, at, bit, count_below}
-use Rattle.model.proofs.Tests.{lt_or_ge, same_or_not}
+use Rattle.model.proofs.Tests.{lt_or_ge}
 use Rattle.model.proofs.Below.{join_step, sum_zero, sum_longer, first}
 use Rattle.plan.specs.Order.{Parts, Passed, Raised, Released, edges_to, edges_between, next_by}
 

@@ -3,11 +3,8 @@ use mathlib.Core.Path.{◌≡◌}
 use mathlib.Core.List.{List}
 use Prim.Native.Nat.{ℕ}
 use native.Mathlib.Omega.{arith}
-use Rattle.std.specs.Prelude.{Ok, Err}
+use Rattle.std.specs.Prelude.{Ok}
 use Rattle.model.specs.Plan.{reading_of}
-use Rattle.model.specs.Graph.{plan_of}
-use Rattle.model.specs.declared.Refusal.{Refusal}
-use Rattle.plan.specs.declared.Columns.{Columns}
 use Rattle.plan.specs.declared.PlanRead.{PlanRead}
 use Rattle.plan.specs.Planned.{plan_read, Holds}
 use Rattle.plan.proofs.Whole.{plan_known}
@@ -30,4 +27,3 @@ holds bytes r e g =
       targets = k.targets;
       amounts = k.amounts;
     }
-

@@ -12,7 +12,7 @@ ghost use Rattle.plan.specs.Planned.{filled, columns_of, columns_read, plan_read
 mod graph;
 
 use graph::Graph;
-use model::{Bus, Fault, Field, Refusal, Seen, Side, Taken, Time, Words};
+use model::{Bus, Fault, Field, Refusal, Seen, Side, Taken, Time, Words, refuse_if};
 
 // The byte at i.
 pub fn byte_at(s: &[u8], i: usize) -> u8
@@ -28,13 +28,6 @@ pub fn two_at(s: &[u8], i: usize) -> u16
     ensures { result ≡ two s.now i }
 {
     u16::from(s[i]) * 256 + u16::from(s[i + 1])
-}
-
-// The refusal of a side's bytes at a place.
-fn refuse<T>(fault: Fault, side: Side, place: usize) -> Result<T, Refusal>
-    ensures { result ≡ Err (record { fault = fault; side = side; place = place }) }
-{
-    Err(Refusal { fault, side, place })
 }
 
 // The body's length of a tag that the bytes of a side may hold.
@@ -61,17 +54,17 @@ pub fn step_in(side: Side, s: &[u8], place: usize) -> Result<Option<Field>, Refu
     }
     let rest = s.len() - place;
     if rest < 3 {
-        return refuse(Fault::FieldCut, side, place);
+        return Err(Refusal::new(Fault::FieldCut, side, place));
     }
     let tag = s[place];
     let Some(body) = body_of(side, tag) else {
-        return refuse(Fault::TagUnknown, side, place);
+        return Err(Refusal::new(Fault::TagUnknown, side, place));
     };
     if usize::from(two_at(s, place + 1)) != body {
-        return refuse(Fault::LengthWrong, side, place);
+        return Err(Refusal::new(Fault::LengthWrong, side, place));
     }
     if rest < 3 + body {
-        return refuse(Fault::FieldCut, side, place);
+        return Err(Refusal::new(Fault::FieldCut, side, place));
     }
     Ok(Some(Field {
         tag,
@@ -109,7 +102,7 @@ fn header_in(plan: &[u8], place: usize) -> Result<Option<Taken>, Refusal>
     let t = plan[place + 4];
     let d = plan[place + 5];
     if !settings_good(cores, t, d) {
-        return refuse(Fault::ValueOutOfRange, Side::OfPlan, place);
+        return Err(Refusal::new(Fault::ValueOutOfRange, Side::OfPlan, place));
     }
     let bus = Bus {
         cores: u32::from(cores),
@@ -130,11 +123,11 @@ fn task_in(plan: &[u8], seen: Seen) -> Result<Option<Taken>, Refusal>
 {
     let place = seen.at;
     if 64 <= seen.tasks {
-        return refuse(Fault::TooMany, Side::OfPlan, place);
+        return Err(Refusal::new(Fault::TooMany, Side::OfPlan, place));
     }
     let cost = two_at(plan, place + 3);
     if cost == 0 {
-        return refuse(Fault::ValueOutOfRange, Side::OfPlan, place);
+        return Err(Refusal::new(Fault::ValueOutOfRange, Side::OfPlan, place));
     }
     Ok(Some(Taken::Task {
         cost,
@@ -158,16 +151,16 @@ fn edge_in(plan: &[u8], seen: Seen) -> Result<Option<Taken>, Refusal>
 {
     let place = seen.at;
     if 256 <= seen.edges {
-        return refuse(Fault::TooMany, Side::OfPlan, place);
+        return Err(Refusal::new(Fault::TooMany, Side::OfPlan, place));
     }
     let source = plan[place + 3];
     let target = plan[place + 4];
     let words = two_at(plan, place + 5);
     if seen.tasks <= usize::from(source) || seen.tasks <= usize::from(target) || 4095 < words {
-        return refuse(Fault::ValueOutOfRange, Side::OfPlan, place);
+        return Err(Refusal::new(Fault::ValueOutOfRange, Side::OfPlan, place));
     }
     if key_of(source, target) < seen.least {
-        return refuse(Fault::EdgesNotRising, Side::OfPlan, place);
+        return Err(Refusal::new(Fault::EdgesNotRising, Side::OfPlan, place));
     }
     Ok(Some(Taken::Edge {
         source,
@@ -257,7 +250,7 @@ fn field_by(plan: &[u8], seen: Seen) -> Result<Option<Taken>, Refusal>
     match step_from(plan, seen.at)? {
         Some(field) => by_tag(plan, seen, field.tag),
         None if seen.started => Ok(None),
-        None => refuse(Fault::FieldCut, Side::OfPlan, seen.at),
+        None => Err(Refusal::new(Fault::FieldCut, Side::OfPlan, seen.at)),
     }
 }
 
@@ -269,7 +262,7 @@ fn field_of(plan: &[u8], seen: Seen) -> Result<Option<Taken>, Refusal>
 {
     let at = seen.at;
     if 3 <= plan.len() - at && !in_order(seen, plan[at]) {
-        return refuse(Fault::TagUnknown, Side::OfPlan, at);
+        return Err(Refusal::new(Fault::TagUnknown, Side::OfPlan, at));
     }
     field_by(plan, seen)
 }
@@ -406,10 +399,8 @@ impl Columns {
             targets: &self.targets[..self.edges],
         };
         let taken = graph.list_order(&mut self.order);
-        if taken < self.tasks {
-            return refuse(Fault::Cyclic, Side::OfPlan, place);
-        }
-        Ok(())
+        let cyclic = Refusal::new(Fault::Cyclic, Side::OfPlan, place);
+        refuse_if(taken < self.tasks, cyclic)
     }
 
     // The plan that bytes are.
