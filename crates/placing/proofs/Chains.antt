@@ -63,9 +63,6 @@ module _ (sources targets end : List ℕ) (a : ℕ) where
       abbrev e : ℕ
       e = left - 1
 
-      pub walk_source : at sources e < a
-      walk_source = let q = k.ends some in omega (arith, w.before e (omega (arith, k.within)) (omega (arith, q)), q)
-
       pub walk_less : (next : ℕ) → next ≡ at links (64 + e) → next < left
       walk_less next q =
           omega (arith, q, w.nexts e (omega (arith, k.within)), last_le targets (at targets e) e)
