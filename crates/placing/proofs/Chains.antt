@@ -49,40 +49,37 @@ module _ (sources targets end : List ℕ) (a : ℕ) where
     pub ends : 0 < left → at targets (left - 1) ≡ a
     pub rest : max from (sent left) ≡ sent (length sources)
 
-  module _ (links : List ℕ) (places : ℕ) (w : Chained sources targets links places) (h : a < places) where
-    pub walk_start : (left : ℕ) → left ≡ at links a → Walked 0 left
-    walk_start left q =
-        let e : left ≡ last_to targets a (length sources) = q ∙ w.heads a h in
+module _ {sources targets links end : List ℕ} {places a : ℕ} (w : Chained sources targets links places) (h : a < places) where
+  pub walk_start : {left : ℕ} → left ≡ at links a → Walked sources targets end a 0 left
+  walk_start {left} q =
+      let e : left ≡ last_to targets a (length sources) = q ∙ w.heads a h in
+      record {
+        within = omega (arith, e, last_le targets a (length sources));
+        ends = λ k. rw e (last_ends targets a (length sources) (rw e at k));
+        rest = rw e (omega (arith, sent_last sources targets end a (length sources)));
+      }
+
+  module _ {from left : ℕ} (k : Walked sources targets end a from left) (some : 0 < left) where
+    abbrev e : ℕ
+    e = left - 1
+
+    pub walk_less : {next : ℕ} → next ≡ at links (64 + e) → next < left
+    walk_less q = omega (arith, q, w.nexts e (omega (arith, k.within)), last_le targets (at targets e) e)
+
+    pub walk_on : {from' next : ℕ} → from' ≡ max from (at end (2 * at sources e + 1)) → next ≡ at links (64 + e)
+        → Walked sources targets end a from' next
+    walk_on {from'} {next} p q =
+        let sent : ℕ → ℕ = sent_by sources targets end a in
+        let t = k.ends some in
+        let is : next ≡ last_to targets a e = q ∙ w.nexts e (omega (arith, k.within)) ∙ ap (λ (x : ℕ). last_to targets x e) t in
+        let up : suc e ≡ left = omega arith in
+        let more : sent left ≡ max (sent e) (at end (2 * at sources e + 1)) = ap sent (sym up) ∙ sent_more sources targets end a e t in
         record {
-          within = omega (arith, e, last_le targets a (length sources));
-          ends = λ k. rw e (last_ends targets a (length sources) (rw e at k));
-          rest = rw e (omega (arith, sent_last (length sources)));
+          within = omega (arith, is, last_le targets a e, k.within);
+          ends = λ l. rw is (last_ends targets a e (rw is at l));
+          rest = rw is (omega (arith, p, sent_last sources targets end a e, more, k.rest));
         }
 
-    module _ (from left : ℕ) (k : Walked from left) (some : 0 < left) where
-      abbrev e : ℕ
-      e = left - 1
-
-      pub walk_source : at sources e < a
-      walk_source = let q = k.ends some in omega (arith, w.before e (omega (arith, k.within)) (omega (arith, q)), q)
-
-      pub walk_less : (next : ℕ) → next ≡ at links (64 + e) → next < left
-      walk_less next q =
-          omega (arith, q, w.nexts e (omega (arith, k.within)), last_le targets (at targets e) e)
-
-      pub walk_on :
-          (from' next : ℕ) → from' ≡ max from (at end (2 * at sources e + 1)) → next ≡ at links (64 + e) → Walked from' next
-      walk_on from' next p q =
-          let t = k.ends some in
-          let is : next ≡ last_to targets a e = q ∙ w.nexts e (omega (arith, k.within)) ∙ ap (λ (x : ℕ). last_to targets x e) t in
-          let up : suc e ≡ left = omega arith in
-          let more : sent left ≡ max (sent e) (at end (2 * at sources e + 1)) = ap sent (sym up) ∙ sent_more e t in
-          record {
-            within = omega (arith, is, last_le targets a e, k.within);
-            ends = λ l. rw is (last_ends targets a e (rw is at l));
-            rest = rw is (omega (arith, p, sent_last e, more, k.rest));
-          }
-
-    pub walk_end : (from left : ℕ) → Walked from left → left ≤ 0 → from ≡ sent (length sources)
-    unfolding sent_by join_below
-    walk_end from left k none = let z : left ≡ 0 = omega arith in omega (arith, rw z at k.rest)
+  pub walk_end : {from left : ℕ} → Walked sources targets end a from left → left ≤ 0 → from ≡ sent_by sources targets end a (length sources)
+  unfolding sent_by join_below
+  walk_end {from} {left} k none = let z : left ≡ 0 = omega arith in omega (arith, rw z at k.rest)

@@ -202,3 +202,5 @@ module _ (core start end words : List ℕ) (count : ℕ) where
 
 -- what the loop that looks for the greatest end meets
 pub ruleset untils = (idle_until, met_none, join_step)
+
+pub ruleset passing = (passed_on, passed_end)

@@ -63,7 +63,7 @@ module _ (core start closes : List ℕ) (y mine own from to : ℕ) where
 pub ruleset meeting = (met_here, met_not)
 
 -- ---- one place, on columns
-module _ (costs sources targets links choices core words lengths start end : List ℕ) (a : ℕ)
+module _ {costs sources targets links choices core words lengths start end : List ℕ} {a : ℕ}
     (room : Room costs sources targets links choices core words lengths start end a) where
   abbrev ends : ℕ
   ends = max_below (at end) (2 * a)
@@ -85,12 +85,12 @@ module _ (costs sources targets links choices core words lengths start end : Lis
       rw t (max_ge (at end) (2 * a) (2 * at sources e + 1) (omega (arith, room.chained.before e l (omega (arith, q, room.costs_all)), q))))
       (λ t. rw t zero-le))
 
-  module _ (from : ℕ) (q : from ≡ earliest_by sources targets core end a) where
+  module _ {from : ℕ} (q : from ≡ earliest_by sources targets core end a) where
     pub starts_overlapping : (at choices a % 2 ≡ 1 → ⊥) → Starts costs sources targets choices core words lengths start end a from
     starts_overlapping d =
         record { overlapping = λ _. q; alone = λ e. absurd (d (eqb-true (at choices a % 2) 1 e)) }
 
-    module _ (closes tops : List ℕ) (w : Closed words end closes tops a) where
+    module _ {closes tops : List ℕ} (w : Closed words end closes tops a) where
       closes_within : max_below (at closes) (2 * a) ≤ ends
       unfolding close_of
       closes_within =
@@ -137,14 +137,14 @@ module _ (costs sources targets links choices core words lengths start end : Lis
       pub first_sized : Sized first start closes closes (length first)
       first_sized = sized_front core start closes closes (2 * a) first_all
 
-      module _ (low : ℕ) (b : low ≡ back_to tops from (2 * a)) where
+      module _ {low : ℕ} (b : low ≡ back_to tops from (2 * a)) where
         pub low_within : low ≤ length first
         low_within = omega (arith, b, first_count, back_le tops from (2 * a))
 
         pub low_over : (y : ℕ) → y < low → at closes y ≤ from
         low_over y l = back_over tops from (at closes) (2 * a) (λ x k z m. w.topped x z k m) y (omega (arith, b))
 
-      module _ (t : Task) (e : t ≡ task_at costs core words lengths a) where
+      module _ {t : Task} (e : t ≡ task_at costs core words lengths a) where
         pub start_within : from + t.read + t.cost + t.write < 4294967296
         start_within = rw e (omega (arith, q, free_top, sent_top, room.fits))
 
@@ -152,9 +152,9 @@ module _ (costs sources targets links choices core words lengths start end : Lis
         closes_fit = rw (e, first_count) (omega (arith, closes_within, room.fits))
 
         pub starts_alone :
-            (r : ℕ) → at choices a % 2 ≡ 1 → LeastFree (clash_by first start closes closes (length first) t) from r
+            {r : ℕ} → at choices a % 2 ≡ 1 → LeastFree (clash_by first start closes closes (length first) t) from r
             → Starts costs sources targets choices core words lengths start end a r
-        starts_alone r o f =
+        starts_alone {r} o f =
             let g = rw e at f in
             let s = task_at costs core words lengths a in
             record {
@@ -224,13 +224,13 @@ closed_none words end =
     }
 
 -- ---- when a place is put behind the others: its core, and its ends
-module _ (core words end end' : List ℕ) (a : ℕ) (same : (y : ℕ) → y < 2 * a → at end' y ≡ at end y) where
+module _ {end end' : List ℕ} {a : ℕ} (same : (y : ℕ) → y < 2 * a → at end' y ≡ at end y) where
   pub freed_more :
-      (free free' : List ℕ) → Freed core end free a → at core (2 * a) < 8
+      {core free free' : List ℕ} → Freed core end free a → at core (2 * a) < 8
       → free' ≡ with_free free core end' a
       → Freed core end' free' (a + 1)
   unfolding free_by
-  freed_more free free' w few e =
+  freed_more {core} {free} {free'} w few e =
       let mine : ℕ = at core (2 * a) in
       record {
         all = rw e (simp length-set w.all);
@@ -248,11 +248,11 @@ module _ (core words end end' : List ℕ) (a : ℕ) (same : (y : ℕ) → y < 2 
       }
 
   pub closed_more :
-      (closes tops closes' tops' : List ℕ) → a < 64 → Closed words end closes tops a
+      {words closes tops closes' tops' : List ℕ} → a < 64 → Closed words end closes tops a
       → closes' ≡ with_closes closes words end' a
       → tops' ≡ with_tops tops words end' a
       → Closed words end' closes' tops' (a + 1)
-  closed_more closes tops closes' tops' few w p q =
+  closed_more {words} {closes} {tops} {closes'} {tops'} few w p q =
       let u : ℕ = close_by words end' (2 * a) in
       let v : ℕ = close_by words end' (2 * a + 1) in
       let top : ℕ = max (at tops (2 * a)) u in
@@ -323,9 +323,9 @@ pub record Done (t : Table) (start₀ end₀ start end : List ℕ) (a : ℕ) : T
   pub ends : Column (of_phase t.E t.F) (2 * a) end₀ end
 
 -- what a further place leaves as it was
-pub done_kept : (t : Table) (start₀ end₀ start end start' end' : List ℕ) (a : ℕ) → Done t start₀ end₀ start end a
+pub done_kept : {t : Table} {start₀ end₀ start end start' end' : List ℕ} {a : ℕ} → Done t start₀ end₀ start end a
     → Done t start₀ end₀ start' end' (a + 1) → (y : ℕ) → y < 2 * a → at end' y ≡ at end y
-done_kept t start₀ end₀ start end start' end' a d d' y l = d'.ends.each y (omega arith) ∙ sym (d.ends.each y l)
+done_kept d d' y l = d'.ends.each y (omega arith) ∙ sym (d.ends.each y l)
 
 pub done_none : (t : Table) (start end : List ℕ) → Done t start end start end 0
 done_none t start end =
@@ -334,7 +334,7 @@ done_none t start end =
       ends = record { long = refl; each = λ x l. absurd (omega arith); rest = λ x l. refl };
     }
 
-module _ (bus : Bus) (costs sources targets amounts links choices core words lengths : List ℕ)
+module _ {bus : Bus} {costs sources targets amounts links choices core words lengths : List ℕ}
     (ready : Ready bus costs sources targets amounts links choices)
     (prep : Prepared (candidate_by bus costs sources targets amounts choices) core words lengths)
     (few : FewCores choices (length costs)) where
@@ -363,7 +363,7 @@ module _ (bus : Bus) (costs sources targets amounts links choices core words len
         length_at (2 * a + 1) (omega arith),
       )
 
-  module _ (start₀ end₀ start end : List ℕ) (a : ℕ) (roomy : 2 * k ≤ length start₀) (space : 2 * k ≤ length end₀) (h : a < k)
+  module _ {start₀ end₀ start end : List ℕ} {a : ℕ} (roomy : 2 * k ≤ length start₀) (space : 2 * k ≤ length end₀) (h : a < k)
       (d : Done t start₀ end₀ start end a) where
     ends_within : max_below (at end) (2 * a) ≤ makespan a t
     unfolding placed
@@ -490,7 +490,7 @@ module _ (bus : Bus) (costs sources targets amounts links choices core words len
         (core_read a h) (prep.loads (2 * a + 1) (omega arith)) (omega arith) (omega arith) q s e w in
         rw (one, two))
 
-    module _ (r : ℕ) (o : Starts costs sources targets choices core words lengths start end a r) where
+    module _ {r : ℕ} (o : Starts costs sources targets choices core words lengths start end a r) where
       start_placed : r ≡ t.R a
       unfolding placed
       start_placed =
@@ -513,12 +513,12 @@ module _ (bus : Bus) (costs sources targets amounts links choices core words len
       start_fits = omega (arith, start_placed, placed_within c l a h, room_at a h)
 
       pub done_more :
-          (start' end' : List ℕ)
+          {start' end' : List ℕ}
           → start' ≡ with_pair start a r (r + at lengths (2 * a) + at costs a)
           → end' ≡ with_pair end a (r + at lengths (2 * a)) (r + at lengths (2 * a) + at costs a + at lengths (2 * a + 1))
           → Done t start₀ end₀ start' end' (a + 1)
       unfolding placed
-      done_more start' end' p q =
+      done_more {start'} {end'} p q =
           let read = length_at (2 * a) (omega arith) in
           let write = length_at (2 * a + 1) (omega arith) in
           record {
@@ -536,10 +536,10 @@ module _ (bus : Bus) (costs sources targets amounts links choices core words len
 
 -- all places
 pub done_all :
-    (t : Table) (start₀ end₀ start end : List ℕ) (a n : ℕ) → 2 * n ≤ length start₀ → 2 * n ≤ length end₀ → a ≤ n → n ≤ a
+    {t : Table} {start₀ end₀ start end : List ℕ} {a n : ℕ} → 2 * n ≤ length start₀ → 2 * n ≤ length end₀ → a ≤ n → n ≤ a
     → Done t start₀ end₀ start end a
     → (start ≡ start_column n t ++ drop (2 * n) start₀) × (end ≡ end_column n t ++ drop (2 * n) end₀)
-done_all t start₀ end₀ start end a n p q l m d =
+done_all {t} {start₀} {end₀} {start} {end} {a} {n} p q l m d =
     let e : a ≡ n = omega arith in (
       column_is (of_phase t.R t.W) (2 * n) start₀ p start (rw e at d.starts),
       column_is (of_phase t.E t.F) (2 * n) end₀ q end (rw e at d.ends),

@@ -110,6 +110,7 @@ impl Earlier<'_> {
     }
 
     // The least start from `from` on at which the task meets none of the phases. A `loop`, since each start says which is next.
+    #[tactic(auto, using(crate::proofs::Exclusive::passing))]
     pub fn exclusive_start(&self, task: Task, from: u32) -> u32
         requires fits { from + task.read + task.cost + task.write < 2 ^ 32 }
         requires ends_fit { max_below (at self.now.closes.now) (length self.now.core.now) + task.read + task.cost + task.write < 2 ^ 32 }

@@ -4,5 +4,5 @@ use Rattle.contention.proofs.add_edge.Goals as goal
 
 pub raise-requires : goal.raise-requires
 raise-requires c =
-    let r = ready_to_raise _ _ _ _ _ c.requires.known _ c.requires.edge_in c.args.words.now c.requires.room c.requires.loads _ _ _ c.moved_by-moved.ensures c.if-moved-eq0.false c.from-from.ensures c.from-to.ensures in
+    let r = ready_to_raise c.requires.known _ c.requires.edge_in c.args.words.now c.requires.room c.requires.loads c.moved_by-moved.ensures c.if-moved-eq0.false c.from-from.ensures c.from-to.ensures in
     record { write_in = r.0; read_in = r.1; read_fits = r.2; write_fits = r.3 }

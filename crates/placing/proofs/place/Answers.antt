@@ -8,28 +8,28 @@ loop-a-init c = record { done = done_none _ _ _; freed = freed_none _ _; closed 
 pub start_at-r-requires-clause-room : goal.start_at-r-requires-clause-room
 start_at-r-requires-clause-room c =
     let q = c.requires in
-    room_next _ _ _ _ _ _ _ _ _ _ c.args.candidate.ready q.prepared q.few_cores c.args.start.now c.args.end.now _ _ _ q.starts_room q.ends_room c.loop-a-test.true c.loop-a.invariant.done
+    room_next c.args.candidate.ready q.prepared q.few_cores q.starts_room q.ends_room c.loop-a-test.true c.loop-a.invariant.done
 
 pub put_windows-requires-clause-fits : goal.put_windows-requires-clause-fits
 put_windows-requires-clause-fits c =
     let q = c.requires in
-    start_fits _ _ _ _ _ _ _ _ _ _ c.args.candidate.ready q.prepared q.few_cores c.args.start.now c.args.end.now _ _ _ q.starts_room q.ends_room c.loop-a-test.true c.loop-a.invariant.done _ c.start_at-r.ensures
+    start_fits c.args.candidate.ready q.prepared q.few_cores q.starts_room q.ends_room c.loop-a-test.true c.loop-a.invariant.done c.start_at-r.ensures
 
 pub loop-a-preserved : goal.loop-a-preserved
 loop-a-preserved c =
     let q = c.requires in
     let i = c.loop-a.invariant in
     let h = c.loop-a-test.true in
-    let room = room_next _ _ _ _ _ _ _ _ _ _ c.args.candidate.ready q.prepared q.few_cores c.args.start.now c.args.end.now _ _ _ q.starts_room q.ends_room h i.done in
-    let done = done_more _ _ _ _ _ _ _ _ _ _ c.args.candidate.ready q.prepared q.few_cores c.args.start.now c.args.end.now _ _ _ q.starts_room q.ends_room h i.done _ c.start_at-r.ensures _ _ c.put_windows.ensures.starts c.put_windows.ensures.ends in
-    let kept = done_kept _ _ _ _ _ _ _ _ i.done done in
+    let room = room_next c.args.candidate.ready q.prepared q.few_cores q.starts_room q.ends_room h i.done in
+    let done = done_more c.args.candidate.ready q.prepared q.few_cores q.starts_room q.ends_room h i.done c.start_at-r.ensures c.put_windows.ensures.starts c.put_windows.ensures.ends in
+    let kept = done_kept i.done done in
     record {
       done = done;
-      freed = freed_more _ c.args.phases.words.now _ _ _ kept _ _ i.freed room.few_cores c.stand.ensures.free;
-      closed = closed_more c.args.phases.core.now _ _ _ _ kept _ _ _ _ room.few i.closed c.stand.ensures.closes c.stand.ensures.tops;
+      freed = freed_more kept i.freed room.few_cores c.stand.ensures.free;
+      closed = closed_more kept room.few i.closed c.stand.ensures.closes c.stand.ensures.tops;
     }
 
 pub returns : goal.returns
 returns c =
-    let all = done_all _ c.args.start.now c.args.end.now _ _ _ _ c.requires.starts_room c.requires.ends_room c.loop-a.auto.a-end c.loop-a-test.false c.loop-a.invariant.done in
+    let all = done_all c.requires.starts_room c.requires.ends_room c.loop-a.auto.a-end c.loop-a-test.false c.loop-a.invariant.done in
     record { starts = all.0; ends = all.1 }

@@ -4,13 +4,13 @@ use native.Mathlib.Omega.{arith}
 use Rattle.placing.proofs.sources_end.Goals as goal
 
 pub loop-left-init : goal.loop-left-init
-loop-left-init c = walk_start _ _ _ _ _ _ c.args.candidate.now.ready.chained c.requires.place_in _ c.from-left.ensures
+loop-left-init c = walk_start c.args.candidate.now.ready.chained c.requires.place_in c.from-left.ensures
 
 pub loop-left-smaller : goal.loop-left-smaller
-loop-left-smaller c = walk_less _ _ _ _ _ _ c.args.candidate.now.ready.chained c.requires.place_in _ _ c.loop-left.invariant c.loop-left-test.true _ c.from-left-in-loop-left.ensures
+loop-left-smaller c = walk_less c.args.candidate.now.ready.chained c.requires.place_in c.loop-left.invariant c.loop-left-test.true c.from-left-in-loop-left.ensures
 
 pub loop-left-preserved : goal.loop-left-preserved
-loop-left-preserved c = walk_on _ _ _ _ _ _ c.args.candidate.now.ready.chained c.requires.place_in _ _ c.loop-left.invariant c.loop-left-test.true _ _ (grind arith) c.from-left-in-loop-left.ensures
+loop-left-preserved c = walk_on c.args.candidate.now.ready.chained c.requires.place_in c.loop-left.invariant c.loop-left-test.true (grind arith) c.from-left-in-loop-left.ensures
 
 pub returns : goal.returns
-returns c = walk_end _ _ _ _ _ _ c.args.candidate.now.ready.chained c.requires.place_in _ _ c.loop-left.invariant c.loop-left-test.false
+returns c = walk_end c.args.candidate.now.ready.chained c.requires.place_in c.loop-left.invariant c.loop-left-test.false
