@@ -16,15 +16,18 @@ use Rattle.contention.specs.Columns.{phases_by, Sized}
 use Rattle.verifier.specs.Judging.{column_of, phase_cores, phase_starts, phase_ends, phase_loads}
 use Rattle.bus.specs.Playing.{use_of, Playable}
 use Rattle.run.specs.Checks.{run_by}
-<<<<<<< HEAD
-use Rattle.run.proofs.Ways.{Obeyed, Ruled, ruled_is, front_room, front_cores, front_starts, front_ends, front_loads, playable, Answered, unplayed, served_good, words_long, words_within, room_good, played}
 use Rattle.std.specs.Prelude.{Ok, Err}
 use Rattle.model.specs.Refusals.{Check}
-=======
-use Rattle.run.proofs.Ways.{Obeyed, Ruled, ruled_is, front_room, front_cores, front_starts, front_ends, front_loads, columns_sized, playable, Answered, unplayed, served_good, words_long, words_within, room_good, played}
->>>>>>> 34ef3d918187404210290ae7d8075cad8add13c4
+use Rattle.verifier.specs.declared.Obeyed.{Obeyed}
+use Rattle.run.proofs.Ways.{Found, Ruled, ruled_is, front_room, front_cores, front_starts, front_ends, front_loads, columns_sized, playable, Answered, unplayed, served_good, words_long, words_within, room_good, played}
 
-module _ (p s : List ℕ) {bus : Bus} {n : ℕ} (o : Obeyed (judged p s) bus n) where
+module _ (p s : List ℕ) {k : Obeyed} (o : Found (judged p s) k) where
+  abbrev bus : Bus
+  bus = k.bus
+
+  abbrev n : ℕ
+  n = k.tasks
+
   rule : Ruled o.j
   rule = ruled_is p s o.j o.given
 
@@ -74,27 +77,7 @@ module _ (p s : List ℕ) {bus : Bus} {n : ℕ} (o : Obeyed (judged p s) bus n) 
         pub unplayed_at : {r : Refusal} → x ≡ Err r → Answered p s served words out (Err r) out
         unplayed_at = unplayed p s served words out o.j o.given x found
 
-<<<<<<< HEAD
-        module _ (g : x ≡ (Ok tt)) where
-          pub playable_at : Playable bus (take (2 * n) core) (take (2 * n) start) (take (2 * n) end) (take (2 * n) most) words served × (2 * length words ≤ length out)
-          playable_at = (
-            rw (o.bus_is, at_cores, at_starts, at_ends, at_loads)
-                (playable o.j rule served words
-                (served_good p s served words out o.j o.given x found g)
-                (words_long p s served words out o.j o.given x found g)
-                (words_within p s served words out o.j o.given x found g)),
-            omega (
-              arith,
-              words_long p s served words out o.j o.given x found g,
-              room_good p s served words out o.j o.given x found g,
-            ),
-          )
-
-          pub played_at : (out' : List ℕ)
-              → out' ≡ answers bus (phases_by (take (2 * n) core) (take (2 * n) start) (take (2 * n) end) (take (2 * n) most) (length words)) (record { served = served; actual = at words }) ++ drop (2 * length words) out
-              → Answered p s served words out (Ok tt) out'
-=======
-        module _ (g : x ≡ Good) where
+        module _ (g : x ≡ Ok tt) where
           pub playable_at : Playable bus (phases_by (take (2 * n) core) (take (2 * n) start) (take (2 * n) end) (take (2 * n) most) (length (take (2 * n) core))) served words
           playable_at =
               rw (o.bus_is, at_cores, at_starts, at_ends, at_loads, front_length)
@@ -113,7 +96,6 @@ module _ (p s : List ℕ) {bus : Bus} {n : ℕ} (o : Obeyed (judged p s) bus n) 
 
           pub played_at : (out' : List ℕ)
               → out' ≡ answers bus (phases_by (take (2 * n) core) (take (2 * n) start) (take (2 * n) end) (take (2 * n) most) (length (take (2 * n) core))) (use_of served words) ++ drop (2 * length words) out
-              → Answered p s served words out Played.Finished out'
->>>>>>> 34ef3d918187404210290ae7d8075cad8add13c4
+              → Answered p s served words out (Ok tt) out'
           played_at out' e =
               played p s served words out o.j o.given x found g rule out' (rw (o.bus_is, at_cores, at_starts, at_ends, at_loads, front_length) at e)

@@ -1,4 +1,3 @@
-pub mod Checks
 pub mod Ways
 pub mod Entry
 pub mod Obeying

@@ -1,5 +1,5 @@
 -- The ways out of `run`: the answer, and the lent list after it. Assumes nothing.
-use mathlib.Core.Path.{◌≡◌, refl, sym, ◌∙◌}
+use mathlib.Core.Path.{◌≡◌, refl, sym, ap, ◌∙◌}
 use mathlib.Core.Bool.{Bool, true, false, not}
 use mathlib.Core.List.{List, [], ◌∷◌, ◌++◌}
 use Prim.Native.Nat.{ℕ, ◌*◌, ◌/◌, ◌≤◌, ◌<◌}
@@ -21,9 +21,8 @@ use Rattle.model.specs.declared.Bus.{Bus}
 use Rattle.model.specs.declared.Fault.TheVariants.{WordsWrong}
 use Rattle.model.specs.declared.Side.TheVariants.{OfNeither}
 use Rattle.model.specs.declared.Refusal.{Refusal}
-use Rattle.model.specs.declared.Time.{Time}
 use Rattle.model.proofs.Below.{list_length, list_at, first}
-use Rattle.model.proofs.Refusals.{or_good, not_refused, passed, and_then_lem}
+use Rattle.model.proofs.Refusals.{ok_err, or_good, not_refused, passed, and_then_lem}
 use Rattle.model.proofs.Contention.{Agree, phase_words_length}
 use Rattle.model.proofs.RoundTrip.{blocks_length, InRange}
 use Rattle.model.proofs.Rules.{good_of}
@@ -35,30 +34,32 @@ use Rattle.guarantee.proofs.Guarantee.{by_phases, by_rivals}
 use Rattle.guarantee.proofs.Demand.{accepted}
 use Rattle.guarantee.proofs.Alike.{accepted_alike}
 use Rattle.guarantee.proofs.Verified.{read_in_range}
-use Rattle.verifier.specs.Judging.{judgement_by, judgement_of, column_of, phase_cores, phase_starts, phase_ends, phase_loads}
-use Rattle.verifier.specs.declared.Judgement.{Judgement}
+use Rattle.verifier.specs.Judging.{obeys, judgement_by, judgement_of, column_of, phase_cores, phase_starts, phase_ends, phase_loads}
+use Rattle.verifier.specs.declared.Obeyed.{Obeyed}
 use Rattle.bus.specs.Playing.{use_of, Playable}
 use Rattle.run.specs.Checks.{over_at, words_by, run_by}
 use Rattle.std.specs.Prelude.{Ok, Err}
 
 -- ---- what the judgement says of the bytes
-refused_by_lem : (o : Outcome Judged) {r : Refusal} → judgement_by o ≡ Judgement.Refused r → o ≡ Err r
-refused_by_lem (Ok j) e = cc
-refused_by_lem (Err r) e = cc
+refused_by : (o : Outcome Judged) {r : Refusal} → judgement_by o ≡ Err r → o ≡ Err r
+refused_by (Ok j) e = cc
+refused_by (Err r) e = cc
 
-pub record Obeyed (o : Outcome Judged) (bus : Bus) (n : ℕ) : Type 0 where
+pub record Found (o : Outcome Judged) (k : Obeyed) : Type 0 where
   pub j : Judged
   pub given : o ≡ Ok j
-  pub bus_is : bus ≡ j.plan.bus
-  pub tasks_is : n ≡ tasks j.plan
+  pub bus_is : k.bus ≡ j.plan.bus
+  pub tasks_is : k.tasks ≡ tasks j.plan
 
-obeyed_by : (o : Outcome Judged) {bus : Bus} {n : ℕ} {m : Time} → judgement_by o ≡ Judgement.Obeys bus n m → Obeyed o bus n
-obeyed_by (Ok j) e = record { j = j; given = refl; bus_is = cc; tasks_is = cc }
-obeyed_by (Err r) e = let z : ◌≡◌ {A = ℕ} 0 1 = cc in absurd (omega arith)
+found_by : (o : Outcome Judged) {k : Obeyed} → judgement_by o ≡ Ok k → Found o k
+found_by (Ok j) {k} e =
+    let q : ◌≡◌ {A = Obeyed} (obeys j.plan (of_numbers j.table)) k = cc in
+    record { j = j; given = refl; bus_is = ap (λ (x : Obeyed). x.bus) (sym q); tasks_is = ap (λ (x : Obeyed). x.tasks) (sym q) }
+found_by (Err r) e = ok_err (sym e)
 
-pub obeyed : (p s : List ℕ) (k : Judgement) {bus : Bus} {n : ℕ} {m : Time} → k ≡ judgement_of p s → k ≡ Judgement.Obeys bus n m → Obeyed (judged p s) bus n
+pub found : (p s : List ℕ) {k : Obeyed} → judgement_of p s ≡ Ok k → Found (judged p s) k
 unfolding judgement_of
-obeyed p s k e q = obeyed_by (judged p s) (sym e ∙ q)
+found p s e = found_by (judged p s) e
 
 -- a table that obeys every rule, as facts
 pub record Ruled (j : Judged) : Type 0 where
@@ -183,9 +184,9 @@ module _ (p s : List ℕ) (served : ℕ) (words out : List ℕ) where
   abbrev pub Answered : Check → List ℕ → Type 0
   Answered r out' = (r ≡ played_of p s served words out) × (out' ≡ played_output p s served words out)
 
-  pub unjudged : (k : Judgement) {r : Refusal} → k ≡ judgement_of p s → k ≡ Judgement.Refused r → Answered (Err r) out
+  pub unjudged : {r : Refusal} → judgement_of p s ≡ Err r → Answered (Err r) out
   unfolding judgement_of played_of played_output playing
-  unjudged k e q = let o = refused_by_lem (judged p s) (sym e ∙ q) in (rw o, rw o)
+  unjudged e = let o = refused_by (judged p s) e in (rw o, rw o)
 
   module _ (j : Judged) (e : judged p s ≡ Ok j) where
     abbrev most : List ℕ

@@ -18,7 +18,7 @@ fn refuse_if(wrong: bool, fault: Fault, place: usize) -> Result<(), Refusal>
 }
 
 // The first phase with more words than are declared for it.
-#[tactic(auto, using(crate::proofs::Checks::first_found), unfolding(crate::specs::Checks::over_at))]
+#[tactic(auto, using(model::proofs::Below::first_none), unfolding(crate::specs::Checks::over_at))]
 fn first_over(most: &[u32], words: &[u32]) -> Option<usize>
     requires { length most.now ≤ length words.now }
     ensures { MatchOption result (first_below (over_at most.now words.now) (length most.now) ≡ length most.now) (λ x. (x ≡ first_below (over_at most.now words.now) (length most.now)) × (x < length most.now)) }

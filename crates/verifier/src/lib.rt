@@ -1,7 +1,7 @@
 // The verifier: the windows of a table judged by every rule, on a plan's columns and a table's numbers.
 #![tactic(auto)]
 
-ghost use Rattle.std.specs.Prelude.{◌≡◌, ◌++◌, ℕ, ◌+◌, ◌*◌, ◌≤◌, ◌<◌, length, drop};
+ghost use Rattle.std.specs.Prelude.{◌≡◌, ◌++◌, ℕ, ◌+◌, ◌*◌, ◌≤◌, ◌<◌, length, drop, IfOk};
 ghost use Rattle.model.specs.Below.{at};
 ghost use Rattle.model.specs.Refusals.{first_bad};
 ghost use Rattle.model.specs.Contention.{phases_of};
@@ -67,6 +67,7 @@ fn rules(
 ) -> Result<Obeyed, Refusal>
     requires { (128 ≤ length core.old) × (128 ≤ length start.old) × (128 ≤ length end.old) × (128 ≤ length words.old) }
     ensures answer { result ≡ ruled (plan_in planned.now) (table_in planned.now) }
+    ensures few { IfOk result (λ obeyed. obeyed.tasks ≤ 64) }
     ensures core { core.new ≡ phase_cores (plan_in planned.now) (table_in planned.now) ++ drop (2 * length planned.now.costs.now) core.old }
     ensures start { start.new ≡ phase_starts (plan_in planned.now) (table_in planned.now) ++ drop (2 * length planned.now.costs.now) start.old }
     ensures end { end.new ≡ phase_ends (plan_in planned.now) (table_in planned.now) ++ drop (2 * length planned.now.costs.now) end.old }
@@ -102,6 +103,7 @@ pub fn judge(
 ) -> Result<Obeyed, Refusal>
     requires { (128 ≤ length core.old) × (128 ≤ length start.old) × (128 ≤ length end.old) × (128 ≤ length words.old) }
     ensures answer { result ≡ judgement_of plan.now table.now }
+    ensures few { IfOk result (λ obeyed. obeyed.tasks ≤ 64) }
     ensures phases { (core.new ≡ column_of phase_cores plan.now table.now core.old) × (start.new ≡ column_of phase_starts plan.now table.now start.old) × (end.new ≡ column_of phase_ends plan.now table.now end.old) × (words.new ≡ column_of phase_loads plan.now table.now words.old) }
 {
     let columns = plan::read(plan)?;
