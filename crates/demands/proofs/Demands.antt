@@ -16,12 +16,12 @@ use Rattle.model.specs.Contention.{phases_of}
 use Rattle.model.specs.Rules.{rules_check}
 use Rattle.model.specs.BusRule.{Use, answers}
 use Rattle.model.specs.ListRule.{made_bytes, made_makespan}
-use Rattle.model.specs.Answers.{Judged, judged, verdict_by, verdict_of, room, making, made_by, made_of, made_output, writing, written_by, written_of, written_output, decoding, decoded_by, decoded_of, decoded_output, playing, played_by, played_of, played_output, served_check, words_check}
+use Rattle.model.specs.Answers.{Judged, judged, verdict_by, verdict_of, room, making, made_by, made_of, made_output, writing, done_by, written_of, written_output, decoding, decoded_of, decoded_output, playing, played_of, played_output, served_check, words_check}
 use Rattle.model.specs.declared.Refusal.{Refusal}
 use Rattle.model.specs.declared.Time.{Time}
 use Rattle.model.proofs.Refusals.{passed, and_then_lem, or_good, not_refused}
 use Rattle.model.proofs.RoundTrip.{blocks_length}
-use Rattle.model.proofs.Verdicts.{accepts_facts, accepts_test}
+use Rattle.model.proofs.Verdicts.{done_no, done_yes, accepts_facts, accepts_test}
 use Rattle.model.proofs.Numbers.{rule_facts, rule_test}
 use Rattle.model.proofs.MakeVerify.{verify_made}
 use Rattle.table.proofs.Trip.{read_write, write_read}
@@ -50,33 +50,9 @@ verdict_no : {r : Refusal} (o : Outcome Judged) → verdict_by o ≡ Err r → o
 verdict_no (Ok j) e = cc
 verdict_no (Err r) e = cc
 
-decoded_no : {r : Refusal} (o : Outcome (List ℕ)) → decoded_by o ≡ Err r → o ≡ Err r
-decoded_no (Ok v) e = cc
-decoded_no (Err r) e = cc
-
-written_no : {r : Refusal} (o : Outcome (List ℕ)) → written_by o ≡ Err r → o ≡ Err r
-written_no (Ok v) e = cc
-written_no (Err r) e = cc
-
 made_no : {r : Refusal} (o : Outcome Plan) → made_by o ≡ Err r → o ≡ Err r
 made_no (Ok p) e = cc
 made_no (Err r) e = cc
-
-played_no : {r : Refusal} (o : Outcome (List ℕ)) → played_by o ≡ Err r → o ≡ Err r
-played_no (Ok v) e = cc
-played_no (Err r) e = cc
-
-decoded_yes : (o : Outcome (List ℕ)) → decoded_by o ≡ Ok tt → (v : List ℕ) × (o ≡ Ok v)
-decoded_yes (Ok v) e = (v, refl)
-decoded_yes (Err r) e = let z : ◌≡◌ {A = ℕ} 0 1 = cc in absurd (omega arith)
-
-written_yes : (o : Outcome (List ℕ)) → written_by o ≡ Ok tt → (v : List ℕ) × (o ≡ Ok v)
-written_yes (Ok v) e = (v, refl)
-written_yes (Err r) e = let z : ◌≡◌ {A = ℕ} 0 1 = cc in absurd (omega arith)
-
-played_yes : (o : Outcome (List ℕ)) → played_by o ≡ Ok tt → (v : List ℕ) × (o ≡ Ok v)
-played_yes (Ok v) e = (v, refl)
-played_yes (Err r) e = let z : ◌≡◌ {A = ℕ} 0 1 = cc in absurd (omega arith)
 
 made_yes : (o : Outcome Plan) {m : Time} → made_by o ≡ Ok m → (p : Plan) × (o ≡ Ok p) × (m ≡ record { 0 = made_makespan p })
 made_yes (Ok p) e = (p, refl, cc)
@@ -95,7 +71,7 @@ read_gives : (p s out : List ℕ) → decoded_of p s out ≡ Ok tt
     → (plan : Plan) × (plan_of p ≡ Ok plan) × Front (5 * tasks plan) out (decoded_output p s out)
 unfolding decoded_of decoded_output decoding table_of numbers_at
 read_gives p s out e =
-    let g = decoded_yes (decoding p s out) e in
+    let g = done_yes (decoding p s out) e in
     and_then_lem (plan_of p) _ g.1 (λ plan ep e2.
     and_then_lem (table_of plan s) _ e2 (λ v ev e3.
     let fits = room_fits (5 * tasks plan) out (passed (room (5 * tasks plan) out) v e3).0 in
@@ -106,7 +82,7 @@ write_gives : (p v out : List ℕ) → written_of p v out ≡ Ok tt
     → (plan : Plan) × (plan_of p ≡ Ok plan) × Front (20 * tasks plan) out (written_output p v out)
 unfolding written_of written_output writing
 write_gives p v out e =
-    let g = written_yes (writing p v out) e in
+    let g = done_yes (writing p v out) e in
     and_then_lem (plan_of p) _ g.1 (λ plan ep e2.
     let checks = passed (or_else (values_check (cores plan) (tasks plan) v) (room (20 * tasks plan) out)) (bytes (of_numbers v) (tasks plan)) e2 in
     let fits = room_fits (20 * tasks plan) out (or_good (values_check (cores plan) (tasks plan) v) _ checks.0).1 in
@@ -127,7 +103,7 @@ play_gives : (p s : List ℕ) (served : ℕ) (words out : List ℕ) → played_o
     × (playing p s served words out ≡ Ok (answers j.plan.bus (phases_of j.plan (of_numbers j.table)) (record { served = served; actual = at words })))
 unfolding played_of playing
 play_gives p s served words out e =
-    let g = played_yes (playing p s served words out) e in
+    let g = done_yes (playing p s served words out) e in
     and_then_lem (judged p s) _ g.1 (λ j ej e2.
     let all = passed _ _ e2 in
     let behind = (or_good (served_check j served) _ all.0).1 in
@@ -148,15 +124,15 @@ unfolding verdict_of decoded_of decoded_output written_of written_output made_of
 demand_1 =
     record {
       verify_numbers = λ p s r e. rw (verdict_no (judged p s) e) at (judged_has p s);
-      read_numbers = λ p s out r e. rw (decoded_no (decoding p s out) e) at (reading_has p s out);
-      write_numbers = λ p v out r e. rw (written_no (writing p v out) e) at (writing_has p v out);
+      read_numbers = λ p s out r e. rw (done_no (decoding p s out) e) at (reading_has p s out);
+      write_numbers = λ p v out r e. rw (done_no (writing p v out) e) at (writing_has p v out);
       make_numbers = λ p out r e. rw (made_no (making p out) e) at (making_has p out);
       run_numbers = λ p s served words out r e.
-          rw (played_no (playing p s served words out) e) at (playing_has p s served words out);
-      read_refused = λ p s out r e. rw (decoded_no (decoding p s out) e);
-      write_refused = λ p v out r e. rw (written_no (writing p v out) e);
+          rw (done_no (playing p s served words out) e) at (playing_has p s served words out);
+      read_refused = λ p s out r e. rw (done_no (decoding p s out) e);
+      write_refused = λ p v out r e. rw (done_no (writing p v out) e);
       make_refused = λ p out r e. rw (made_no (making p out) e);
-      run_refused = λ p s served words out r e. rw (played_no (playing p s served words out) e);
+      run_refused = λ p s served words out r e. rw (done_no (playing p s served words out) e);
       read_front = read_gives;
       write_front = write_gives;
       make_front = λ p out m e.

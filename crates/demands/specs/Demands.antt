@@ -89,11 +89,11 @@ pub record Demand2 : Type 0 where
   pub reads_back :
       (p s out : List ℕ) → ((k : ℕ) → at s k < 256) → decoded_of p s out ≡ Ok tt
       → (v : List ℕ) × (decoded_output p s out ≡ v ++ drop (length v) out)
-      × ((lent : List ℕ) → length s ≤ length lent → (written_of p v lent ≡ (Ok tt)) × (written_output p v lent ≡ s ++ drop (length s) lent))
+      × ((lent : List ℕ) → length s ≤ length lent → (written_of p v lent ≡ Ok tt) × (written_output p v lent ≡ s ++ drop (length s) lent))
   pub writes_back :
       (p v out : List ℕ) → written_of p v out ≡ Ok tt
       → (s : List ℕ) × (written_output p v out ≡ s ++ drop (length s) out)
-      × ((lent : List ℕ) → length v ≤ length lent → (decoded_of p s lent ≡ (Ok tt)) × (decoded_output p s lent ≡ v ++ drop (length v) lent))
+      × ((lent : List ℕ) → length v ≤ length lent → (decoded_of p s lent ≡ Ok tt) × (decoded_output p s lent ≡ v ++ drop (length v) lent))
   pub plays :
       (p s : List ℕ) (served : ℕ) (words out : List ℕ) → played_of p s served words out ≡ Ok tt
       → (j : Judged) × (judged p s ≡ Ok j)

@@ -4,7 +4,6 @@
 
 ghost use Rattle.std.specs.Prelude.{◌*◌, ◌≤◌, ◌<◌, length};
 
-use model::Made;
 use std::io;
 
 // The line of task i.
@@ -49,11 +48,10 @@ fn main(rt: HostRuntime) -> io::Result<()> {
     let n = input::read_front(&mut rt.stdin(), &mut plan)?;
     let mut made = [0u8; 1280];
     match maker::make(&plan[..n], &mut made) {
-        Made::Scheduled(makespan) => {
-            say::named(&rt, b"makespan", makespan.0 as u64)?;
-            println!(rt)?;
+        Ok(makespan) => {
+            println!(rt; "makespan {}", makespan.0)?;
             lines(&rt, &made)
         }
-        Made::Refused(r) => say::refused(&rt, r),
+        Err(refusal) => println!(rt; "{refusal}"),
     }
 }

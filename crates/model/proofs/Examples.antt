@@ -12,7 +12,7 @@ use Rattle.model.specs.Rules as rules
 use Rattle.model.specs.ListRule as rule
 use Rattle.model.specs.BusRule as bus
 use Rattle.model.specs.Answers as answers
-use Rattle.model.specs.Answers.{Said, made_says, verdict_says, played_says, made_of, made_output, verdict_of, played_of, played_output}
+use Rattle.model.specs.Answers.{Said, time_says, check_says, made_of, made_output, verdict_of, played_of, played_output}
 use Rattle.model.specs.Counts.{delay}
 use Rattle.model.specs.Examples.{Case, cases}
 

@@ -11,15 +11,14 @@ use Rattle.model.specs.Answers.{judged}
 use Rattle.model.specs.declared.Bus.{Bus}
 use Rattle.model.specs.declared.Refusal.{Refusal}
 use Rattle.model.proofs.Below.{list_length}
-use Rattle.model.proofs.Contention.{phase_words_length}
-use Rattle.contention.specs.Columns.{phases_by, Sized}
+use Rattle.contention.specs.Columns.{phases_by}
 use Rattle.verifier.specs.Judging.{column_of, phase_cores, phase_starts, phase_ends, phase_loads}
 use Rattle.bus.specs.Playing.{use_of, Playable}
 use Rattle.run.specs.Checks.{run_by}
 use Rattle.std.specs.Prelude.{Ok, Err}
 use Rattle.model.specs.Refusals.{Check}
 use Rattle.verifier.specs.declared.Obeyed.{Obeyed}
-use Rattle.run.proofs.Ways.{Found, Ruled, ruled_is, front_room, front_cores, front_starts, front_ends, front_loads, columns_sized, playable, Answered, unplayed, served_good, words_long, words_within, room_good, played}
+use Rattle.run.proofs.Ways.{Found, Ruled, ruled_is, front_cores, front_starts, front_ends, front_loads, playable, Answered, unplayed, served_good, words_long, words_within, room_good, played}
 
 module _ (p s : List ℕ) {k : Obeyed} (o : Found (judged p s) k) where
   abbrev bus : Bus
@@ -33,18 +32,6 @@ module _ (p s : List ℕ) {k : Obeyed} (o : Found (judged p s) k) where
 
   pub few : n ≤ 64
   few = omega (arith, rule.valid.ranges.few_tasks, o.tasks_is)
-
-  pub room_cores : (old new : List ℕ) → new ≡ column_of phase_cores p s old → 2 * n ≤ length new
-  room_cores old new = front_room p s o.j o.given phase_cores old new n o.tasks_is (list_length _ (2 * tasks o.j.plan))
-
-  pub room_starts : (old new : List ℕ) → new ≡ column_of phase_starts p s old → 2 * n ≤ length new
-  room_starts old new = front_room p s o.j o.given phase_starts old new n o.tasks_is (list_length _ (2 * tasks o.j.plan))
-
-  pub room_ends : (old new : List ℕ) → new ≡ column_of phase_ends p s old → 2 * n ≤ length new
-  room_ends old new = front_room p s o.j o.given phase_ends old new n o.tasks_is (list_length _ (2 * tasks o.j.plan))
-
-  pub room_loads : (old new : List ℕ) → new ≡ column_of phase_loads p s old → 2 * n ≤ length new
-  room_loads old new = front_room p s o.j o.given phase_loads old new n o.tasks_is (phase_words_length o.j.plan (of_numbers o.j.table).core)
 
   module _ (old0 old1 old2 old3 core start end most : List ℕ)
       (all : (core ≡ column_of phase_cores p s old0) × (start ≡ column_of phase_starts p s old1) × (end ≡ column_of phase_ends p s old2) × (most ≡ column_of phase_loads p s old3))
@@ -61,14 +48,8 @@ module _ (p s : List ℕ) {k : Obeyed} (o : Found (judged p s) k) where
       pub at_loads : take (2 * n) most ≡ phase_loads o.j.plan (of_numbers o.j.table)
       at_loads = front_loads p s o.j o.given old3 most n o.tasks_is all.3
 
-      pub few_loads : length (take (2 * n) most) ≤ 128
-      few_loads = rw at_loads (omega (arith, phase_words_length o.j.plan (of_numbers o.j.table).core, rule.valid.ranges.few_tasks))
-
       front_length : length (phase_cores o.j.plan (of_numbers o.j.table)) ≡ 2 * tasks o.j.plan
       front_length = list_length _ (2 * tasks o.j.plan)
-
-      pub sized_at : Sized (take (2 * n) core) (take (2 * n) start) (take (2 * n) end) (take (2 * n) most) (length (take (2 * n) core))
-      sized_at = rw (at_cores, at_starts, at_ends, at_loads) (columns_sized o.j rule)
 
       module _ (served : ℕ) (words out : List ℕ) (x : Check) (q : x ≡ run_by bus.cores served (take (2 * n) most) words (length out)) where
         found : x ≡ run_by (cores o.j.plan) served (phase_loads o.j.plan (of_numbers o.j.table)) words (length out)

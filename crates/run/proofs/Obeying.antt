@@ -5,24 +5,21 @@ use Prim.Native.Nat.{ℕ, ◌+◌, ◌*◌, ◌<◌}
 use native.Mathlib.Omega.{arith}
 use lib.ListN.{length, drop, get_or-append}
 use Rattle.model.specs.Below.{at}
-use Rattle.model.specs.Refusals.{Outcome, or_else, Check}
+use Rattle.model.specs.Refusals.{or_else, Check}
 use Rattle.model.specs.Plan.{tasks}
 use Rattle.model.specs.Table.{of_numbers}
 use Rattle.model.specs.Contention.{Phases, phases_of}
 use Rattle.model.specs.BusRule.{Use, run, finish, waits, answers}
-use Rattle.model.specs.Answers.{Judged, judged, served_check, words_check, room, declared, playing, played_by, played_of, played_output}
+use Rattle.model.specs.Answers.{Judged, judged, served_check, words_check, room, declared, playing, played_of, played_output}
 use Rattle.model.specs.declared.Bus.{Bus}
 use Rattle.model.proofs.Refusals.{passed, and_then_lem}
 use Rattle.model.proofs.RoundTrip.{blocks_at}
 use Rattle.guarantee.specs.Kept.{Guaranteed}
 use Rattle.guarantee.proofs.Guarantee.{by_phases}
+use Rattle.model.proofs.Verdicts.{done_yes}
 use Rattle.run.specs.Obeying.{Obeys}
 use Rattle.run.proofs.Ways.{ruled_is, check_is, answers_length, served_good, words_within}
-use Rattle.std.specs.Prelude.{Ok, Err}
-
-finished_by : (o : Outcome (List ℕ)) → played_by o ≡ Ok tt → (v : List ℕ) × (o ≡ Ok v)
-finished_by (Ok v) e = (v, refl)
-finished_by (Err r) e = let z : ◌≡◌ {A = ℕ} 0 1 = cc in absurd (omega arith)
+use Rattle.std.specs.Prelude.{Ok}
 
 -- number k of the answers, in front of the rest
 module _ (b : Bus) (h : Phases) (u : Use) (rest : List ℕ) where
@@ -39,7 +36,7 @@ module _ (p s : List ℕ) (served : ℕ) (words out : List ℕ) where
   abbrev u : Use
   u = record { served = served; actual = at words }
 
-  module _ (j : Judged) (ej : judged p s ≡ Ok j) (good : or_else (served_check j served) (or_else (words_check j words) (room (4 * tasks j.plan) out)) ≡ (Ok tt)) where
+  module _ (j : Judged) (ej : judged p s ≡ Ok j) (good : or_else (served_check j served) (or_else (words_check j words) (room (4 * tasks j.plan) out)) ≡ Ok tt) where
     abbrev b : Bus
     b = j.plan.bus
 
@@ -85,7 +82,7 @@ module _ (p s : List ℕ) (served : ℕ) (words out : List ℕ) where
   pub run_obeys : played_of p s served words out ≡ Ok tt → Obeys p s u (played_output p s served words out)
   unfolding played_of playing
   run_obeys e =
-      let f = finished_by (playing p s served words out) e in
+      let f = done_yes (playing p s served words out) e in
       and_then_lem (judged p s) _ f.1 (λ j ej e2. obeys j ej (passed _ _ e2).0)
 
 -- two results that the promise of `run` allows are one

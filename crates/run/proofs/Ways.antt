@@ -207,7 +207,7 @@ module _ (p s : List ℕ) (served : ℕ) (words out : List ℕ) where
       unfolding played_of played_output playing
       unplayed {r} b = let c : check ≡ Err r = sym (q ∙ check_is) ∙ b in (rw (e, c), rw (e, c))
 
-      module _ (g : x ≡ (Ok tt)) where
+      module _ (g : x ≡ Ok tt) where
         passes : check ≡ Ok tt
         passes = sym (q ∙ check_is) ∙ g
 
@@ -215,7 +215,7 @@ module _ (p s : List ℕ) (served : ℕ) (words out : List ℕ) where
         unfolding served_check
         served_good = leb-false (cores j.plan) served (not_refused (leb (cores j.plan) served) _ (or_good (served_check j served) _ passes).0)
 
-        behind : (words_check j words ≡ (Ok tt)) × (room (4 * tasks j.plan) out ≡ (Ok tt))
+        behind : (words_check j words ≡ Ok tt) × (room (4 * tasks j.plan) out ≡ Ok tt)
         behind = or_good (words_check j words) (room (4 * tasks j.plan) out) (or_good (served_check j served) _ passes).1
 
         abbrev n : ℕ

@@ -20,7 +20,7 @@ module _ (cs n : ℕ) (v : List ℕ) where
   other : Check
   other = refuse_if (not (eqb (length v) (5 * n))) (refusal FieldCount OfTable (20 * n))
 
-  given_both : values_check cs n v ≡ Ok tt → (other ≡ (Ok tt)) × (first_bad (values_at cs (of_numbers v)) n ≡ (Ok tt))
+  given_both : values_check cs n v ≡ Ok tt → (other ≡ Ok tt) × (first_bad (values_at cs (of_numbers v)) n ≡ Ok tt)
   unfolding values_check other
   given_both g = or_good (refuse_if (not (eqb (length v) (5 * n))) (refusal FieldCount OfTable (20 * n))) (first_bad (values_at cs (of_numbers v)) n) g
 

@@ -11,30 +11,22 @@ use Rattle.model.specs.Refusals.{Outcome, or_else, Check}
 use Rattle.model.specs.Plan.{tasks, cores}
 use Rattle.model.specs.Graph.{plan_of}
 use Rattle.model.specs.Table.{of_numbers, of_bytes, numbers_at, numbers, bytes, rows_check, table_of, values_at, values_check}
-use Rattle.model.specs.Answers.{room, decoding, decoded_by, decoded_of, decoded_output, writing, written_by, written_of, written_output}
+use Rattle.model.specs.Answers.{room, decoding, done_by, decoded_of, decoded_output, writing, written_of, written_output}
 use Rattle.model.proofs.Refusals.{passed, or_good, and_then_lem, first_all}
 use Rattle.model.proofs.RoundTrip.{of_numbers_lem, in_range_same, values_good, written_reads, blocks_length}
 use Rattle.model.proofs.ReadBack.{numbers_write, numbers_all, values_in_range, rows_in_range, rows_length}
+use Rattle.model.proofs.Verdicts.{done_yes}
 use Rattle.table.proofs.Rows.{numbers_long}
 use Rattle.table.proofs.Entries.{given_length, given_values}
 use Rattle.std.specs.Prelude.{Ok, Err}
 
--- an answer that is no refusal comes of a value
-decoded_gives : (o : Outcome (List ℕ)) → decoded_by o ≡ Ok tt → (v : List ℕ) × (o ≡ Ok v)
-decoded_gives (Ok v) e = (v, refl)
-decoded_gives (Err r) e = let z : ◌≡◌ {A = ℕ} 0 1 = cc in absurd (omega arith)
-
-written_gives : (o : Outcome (List ℕ)) → written_by o ≡ Ok tt → (s : List ℕ) × (o ≡ Ok s)
-written_gives (Ok s) e = (s, refl)
-written_gives (Err r) e = let z : ◌≡◌ {A = ℕ} 0 1 = cc in absurd (omega arith)
-
 -- ---- "Read then write gives the same bytes"
 pub read_write : (plan s out : List ℕ) → ((k : ℕ) → at s k < 256) → decoded_of plan s out ≡ Ok tt
     → (v : List ℕ) × (decoded_output plan s out ≡ v ++ drop (length v) out)
-    × ((lent : List ℕ) → length s ≤ length lent → (written_of plan v lent ≡ (Ok tt)) × (written_output plan v lent ≡ s ++ drop (length s) lent))
+    × ((lent : List ℕ) → length s ≤ length lent → (written_of plan v lent ≡ Ok tt) × (written_output plan v lent ≡ s ++ drop (length s) lent))
 unfolding decoded_of decoded_output decoding table_of writing written_of written_output room values_check
 read_write plan s out small e =
-    let g = decoded_gives (decoding plan s out) e in
+    let g = done_yes (decoding plan s out) e in
     and_then_lem (plan_of plan) _ g.1 (λ p ep q.
     and_then_lem (table_of p s) _ q (λ w et x.
     let pr = passed (room (5 * tasks p) out) w x in
@@ -56,10 +48,10 @@ read_write plan s out small e =
 -- ---- "valid values written read back the same"
 pub write_read : (plan v out : List ℕ) → written_of plan v out ≡ Ok tt
     → (s : List ℕ) × (written_output plan v out ≡ s ++ drop (length s) out)
-    × ((lent : List ℕ) → length v ≤ length lent → (decoded_of plan s lent ≡ (Ok tt)) × (decoded_output plan s lent ≡ v ++ drop (length v) lent))
+    × ((lent : List ℕ) → length v ≤ length lent → (decoded_of plan s lent ≡ Ok tt) × (decoded_output plan s lent ≡ v ++ drop (length v) lent))
 unfolding decoded_of decoded_output decoding writing written_of written_output room
 write_read plan v out e =
-    let g = written_gives (writing plan v out) e in
+    let g = done_yes (writing plan v out) e in
     and_then_lem (plan_of plan) _ g.1 (λ p ep q.
     let pr = passed (or_else (values_check (cores p) (tasks p) v) (room (20 * tasks p) out)) (bytes (of_numbers v) (tasks p)) q in
     let ok = or_good (values_check (cores p) (tasks p) v) (room (20 * tasks p) out) pr.0 in

@@ -2,7 +2,7 @@
 // is a two-byte length and bytes. tests/vectors/gen.py writes the cases, and what an independent program says of them.
 #![tactic(auto)]
 
-ghost use Rattle.std.specs.Prelude.{◌+◌, ◌<◌, ◌≤◌, length, IfOk};
+ghost use Rattle.std.specs.Prelude.{◌<◌, ◌≤◌, length, IfOk};
 
 use std::io;
 
@@ -11,82 +11,81 @@ mod runs;
 mod tables;
 mod text;
 
-// A block: where its bytes begin and end. One that is cut ends with the input.
+// What a case asks for.
 #[derive(Clone, Copy)]
-struct Part {
-    from: usize,
-    to: usize,
+enum Kind {
+    Plan,
+    Step,
+    Read,
+    Write,
+    Verify,
+    Run,
+    Make,
 }
 
-fn block(s: &[u8], at: usize) -> Part
-    requires { at ≤ length s.now }
-    ensures { (at ≤ result.from) × (result.from ≤ result.to) × (result.to ≤ length s.now) }
+impl From<u8> for Kind {
+    fn from(number: u8) -> Kind {
+        match number {
+            1 => Kind::Plan,
+            2 => Kind::Step,
+            3 => Kind::Read,
+            4 => Kind::Write,
+            5 => Kind::Verify,
+            6 => Kind::Run,
+            _ => Kind::Make,
+        }
+    }
+}
+
+// A block's bytes, and what is behind it. A block that is cut ends with the input.
+fn block(s: &[u8]) -> (&[u8], &[u8])
+    ensures { length result.1.now ≤ length s.now }
 {
-    let end = s.len();
-    if end - at < 2 {
-        return Part { from: end, to: end };
+    if s.len() < 2 {
+        return s.split_at(s.len());
     }
-    let size = plan::two_at(s, at);
-    let from = at + 2;
-    if end - from < size {
-        return Part { from, to: end };
-    }
-    Part {
-        from,
-        to: from + size,
-    }
+    let size = usize::from(plan::two_at(s, 0));
+    let rest = &s[2..];
+    rest.split_at(size.min(rest.len()))
 }
 
 // A number of two bytes, 0 of any other block.
 fn small(s: &[u8]) -> usize {
     if s.len() == 2 {
-        return plan::two_at(s, 0);
+        usize::from(plan::two_at(s, 0))
+    } else {
+        0
     }
-    0
 }
 
 // What a case's function answers of its blocks.
-fn show(rt: &impl Print, kind: u8, first: &[u8], second: &[u8], third: &[u8]) -> io::Result<()> {
-    if kind == 1 {
-        plans::show_plan(rt, first)
-    } else if kind == 2 {
-        plans::show_step(rt, first, small(third))
-    } else if kind == 3 {
-        tables::show_read(rt, first, second, small(third))
-    } else if kind == 4 {
-        tables::show_write(rt, first, second, small(third))
-    } else if kind == 5 {
-        tables::show_verify(rt, first, second)
-    } else if kind == 6 {
-        runs::show_run(rt, first, second, third)
-    } else {
-        tables::show_make(rt, first, small(third))
+fn show(rt: &impl Print, kind: Kind, first: &[u8], second: &[u8], third: &[u8]) -> io::Result<()> {
+    match kind {
+        Kind::Plan => plans::show_plan(rt, first),
+        Kind::Step => plans::show_step(rt, first, small(third)),
+        Kind::Read => tables::show_read(rt, first, second, small(third)),
+        Kind::Write => tables::show_write(rt, first, second, small(third)),
+        Kind::Verify => tables::show_verify(rt, first, second),
+        Kind::Run => runs::show_run(rt, first, second, third),
+        Kind::Make => tables::show_make(rt, first, small(third)),
     }
 }
 
-// One case; the answer is where the next one begins.
-fn case(rt: &impl Print, s: &[u8], at: usize) -> io::Result<usize>
-    requires { at < length s.now }
-    ensures { IfOk result (λ next. (at < next) × (next ≤ length s.now)) }
+// The case at the front of the input's rest; the answer is what is behind it.
+fn case<'a>(rt: &impl Print, kind: u8, blocks: &'a [u8]) -> io::Result<&'a [u8]>
+    ensures { IfOk result (λ rest. length rest.now ≤ length blocks.now) }
 {
-    let kind = s[at];
-    let first = block(s, at + 1);
-    let a = first.from;
-    let b = first.to;
-    let second = block(s, b);
-    let c = second.from;
-    let d = second.to;
-    let third = block(s, d);
-    let e = third.from;
-    let f = third.to;
-    show(rt, kind, &s[a..b], &s[c..d], &s[e..f])?;
-    Ok(f)
+    let (first, rest) = block(blocks);
+    let (second, rest) = block(rest);
+    let (third, rest) = block(rest);
+    show(rt, Kind::from(kind), first, second, third)?;
+    Ok(rest)
 }
 
 fn cases(rt: &impl Print, s: &[u8]) -> io::Result<()> {
-    let mut at: usize = 0;
-    while at < s.len() {
-        at = case(rt, s, at)?;
+    let mut rest = s;
+    while let Some((kind, blocks)) = rest.split_first() {
+        rest = case(rt, *kind, blocks)?;
     }
     Ok(())
 }

@@ -1,72 +1,49 @@
 // Plans and their fields.
 ghost use Rattle.plan.specs.Planned.{Sized};
 
-use model::{Check, Step};
 use plan::Columns;
 use std::io;
 
 // Cores, T, D, then the execute times, the list order and the edges' sources, targets and words.
-fn show_columns(rt: &impl Print, columns: Columns) -> io::Result<()>
-    requires { Sized columns }
+fn show_columns(rt: &impl Print, columns: &Columns) -> io::Result<()>
+    requires { Sized columns.now }
 {
     let bus = columns.bus;
-    let t = bus.t;
-    let d = bus.d;
-    crate::text::number(rt, bus.cores as u64)?;
-    crate::text::number(rt, t.0 as u64)?;
-    crate::text::number(rt, d.0 as u64)?;
     let n = columns.tasks;
     let m = columns.edges;
-    if 64 < n {
+    crate::text::numbers(rt, &[bus.cores, bus.t.0, bus.d.0])?;
+    if 64 < n || 256 < m {
         return Ok(());
     }
-    if 256 < m {
-        return Ok(());
-    }
-    let costs = columns.costs;
-    let order = columns.order;
-    crate::text::word(rt, b" tasks")?;
-    crate::text::halves(rt, &costs[..n])?;
-    crate::text::word(rt, b" order")?;
-    crate::text::bytes(rt, &order[..n])?;
-    let sources = columns.sources;
-    let targets = columns.targets;
-    let amounts = columns.amounts;
-    crate::text::word(rt, b" edges")?;
-    crate::text::bytes(rt, &sources[..m])?;
-    crate::text::bytes(rt, &targets[..m])?;
-    crate::text::halves(rt, &amounts[..m])
+    print!(rt; " tasks")?;
+    crate::text::numbers(rt, &columns.costs[..n])?;
+    print!(rt; " order")?;
+    crate::text::numbers(rt, &columns.order[..n])?;
+    print!(rt; " edges")?;
+    crate::text::numbers(rt, &columns.sources[..m])?;
+    crate::text::numbers(rt, &columns.targets[..m])?;
+    crate::text::numbers(rt, &columns.amounts[..m])
 }
 
 pub fn show_plan(rt: &impl Print, s: &[u8]) -> io::Result<()> {
     let read = plan::read_plan(s);
-    let check = read.check;
-    let columns = read.columns;
-    crate::text::word(rt, b"plan")?;
-    match check {
-        Check::Good => show_columns(rt, columns)?,
-        Check::Bad(r) => crate::text::refusal(rt, r)?,
+    print!(rt; "plan")?;
+    match read.check {
+        Ok(()) => show_columns(rt, &read.columns)?,
+        Err(refusal) => crate::text::refusal(rt, refusal)?,
     }
-    crate::text::line(rt)
+    println!(rt)
 }
 
 // The step at a place: the field's tag, offset and body length, or that none is left; then where the reader then stands.
 pub fn show_step(rt: &impl Print, s: &[u8], at: usize) -> io::Result<()> {
-    crate::text::word(rt, b"step")?;
+    print!(rt; "step")?;
     match plan::step_from(s, at) {
-        Step::Field {
-            tag,
-            at: offset,
-            body,
-        } => {
-            crate::text::number(rt, tag as u64)?;
-            crate::text::number(rt, offset as u64)?;
-            crate::text::number(rt, body as u64)?;
+        Ok(Some(field)) => {
+            crate::text::numbers(rt, &[usize::from(field.tag), field.at, field.body])?;
         }
-        Step::End => crate::text::word(rt, b" none")?,
-        Step::Broken(r) => crate::text::refusal(rt, r)?,
+        Ok(None) => print!(rt; " none")?,
+        Err(refusal) => crate::text::refusal(rt, refusal)?,
     }
-    crate::text::word(rt, b" then")?;
-    crate::text::number(rt, plan::place_after(s, at) as u64)?;
-    crate::text::line(rt)
+    println!(rt; " then {}", plan::place_after(s, at))
 }

@@ -1,5 +1,4 @@
 // Tables played on the bus. A lent list is printed whole, so that what stays as it was shows too.
-use model::Played;
 use std::io;
 
 fn run_into(
@@ -11,13 +10,13 @@ fn run_into(
     out: &mut [u32],
 ) -> io::Result<()> {
     let answer = run::run(plan, table, served, words, out);
-    crate::text::word(rt, b"run")?;
-    if let Played::Refused(r) = answer {
-        crate::text::refusal(rt, r)?;
+    print!(rt; "run")?;
+    if let Err(refusal) = answer {
+        crate::text::refusal(rt, refusal)?;
     }
-    crate::text::word(rt, b" list")?;
+    print!(rt; " list")?;
     crate::text::numbers(rt, out)?;
-    crate::text::line(rt)
+    println!(rt)
 }
 
 // Of six bytes and more: the length of the list lent, two bytes; the core served last, four; the word counts, four each.
@@ -25,7 +24,7 @@ pub fn show_run(rt: &impl Print, plan: &[u8], table: &[u8], given: &[u8]) -> io:
     if given.len() < 6 {
         return Ok(());
     }
-    let room = plan::two_at(given, 0);
+    let room = usize::from(plan::two_at(given, 0));
     let served = table::four_at(given, 2);
     let mut words = [0u32; 2048];
     let count = crate::tables::take_numbers(&given[6..], &mut words);

@@ -4,7 +4,6 @@
 
 ghost use Rattle.std.specs.Prelude.{◌≡◌, ◌≤◌, length, take, IfOk};
 
-use model::Verdict;
 use std::fs::File;
 use std::io;
 
@@ -24,10 +23,7 @@ fn main(rt: HostRuntime) -> io::Result<()> {
     let p = load(&rt, "plan.bin", &mut plan)?;
     let t = load(&rt, "table.bin", &mut table)?;
     match verifier::verify(&plan[..p], &table[..t]) {
-        Verdict::Accepted(makespan) => {
-            say::named(&rt, b"accepted", makespan.0 as u64)?;
-            println!(rt)
-        }
-        Verdict::Refused(r) => say::refused(&rt, r),
+        Ok(makespan) => println!(rt; "accepted {}", makespan.0),
+        Err(refusal) => println!(rt; "{refusal}"),
     }
 }
