@@ -63,18 +63,6 @@ fn holding(bus: Bus, words: Words) -> Time
     Time(bus.t.0 / bus.d.0 * words.0)
 }
 
-// Before the first grant each phase ends at its start, with no waits.
-fn open_answers(start: &[u32], count: usize, out: &mut [u32])
-    requires { (count ≤ 128) × (count ≤ length start.now) × (2 * count ≤ length out.old) }
-    ensures { out.new ≡ opened start.now count ++ drop (2 * count) out.old }
-{
-    for x in 0..count {
-        let i = 2 * x;
-        out[i] = start[x];
-        out[i + 1] = 0;
-    }
-}
-
 // Ends are numbers of 32 bits. Of a column this is known, of a struct's only if it is said.
 fn ends_fit(end: &[u32])
     ensures { (z : ℕ) → at end.now z < 4294967296 }
@@ -110,6 +98,7 @@ impl Run<'_> {
         soonest(count, |y| self.waits(c, y), |y| self.phases.start[y]).unwrap_or(count)
     }
 
+    #[tactic(auto, using(contention::proofs::Columns::filling))]
     fn fill_heads(&mut self)
         ensures phases { self.new.phases ≡ self.old.phases }
         ensures left { self.new.left.now ≡ self.old.left.now }
@@ -117,6 +106,18 @@ impl Run<'_> {
     {
         for c in 0..self.head.len() {
             self.head[c] = self.head_of(c);
+        }
+    }
+
+    // Before the first grant each phase ends at its start, with no waits.
+    fn open_answers(&self, out: &mut [u32])
+        requires { 2 * length self.now.left.now ≤ length out.old }
+        ensures { out.new ≡ opened self.now.phases.start.now (length self.now.left.now) ++ drop (2 * length self.now.left.now) out.old }
+    {
+        for x in 0..self.left.len() {
+            let i = 2 * x;
+            out[i] = self.phases.start[x];
+            out[i + 1] = 0;
         }
     }
 
@@ -194,6 +195,7 @@ impl Run<'_> {
     }
 
     // A grant to core c's head at `time`: the waits of the others, its end, its words, and the next head; the end is given back.
+    #[tactic(auto, unfolding(crate::specs::OneGrant::size_of, crate::specs::OneGrant::sent_by, crate::specs::OneGrant::heads_after,))]
     fn grant(&mut self, bus: Bus, time: u32, c: usize, out: &mut [u32]) -> u32
         requires { Granting bus self.old.phases.core.now self.old.phases.start.now time c self.old.left.now self.old.head.now out.old }
         ensures phases { self.new.phases ≡ self.old.phases }
@@ -243,9 +245,9 @@ pub fn play(bus: Bus, phases: PhaseColumns<'_>, actual: &[u32], served: u32, out
     let left = &mut left[..actual.len()];
     let head = &mut head[..bus.cores as usize];
     left.copy_from_slice(actual);
-    open_answers(phases.start, actual.len(), out);
     ends_fit(phases.end);
     let mut run = Run { phases, left, head };
+    run.open_answers(out);
     run.fill_heads();
     run.grants(bus, actual, served, out);
 }
