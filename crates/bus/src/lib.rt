@@ -24,17 +24,17 @@ fn soonest<P: Fn(usize) -> bool, V: Fn(usize) -> u32>(
     requires reads { (i : ℕ) → i < count → P.post passes i true → V.pre value i }
     ensures { (number : ℕ → ℕ) (test : ℕ → Bool) → Gives (V.post value) number count → Gives (P.post passes) test count → result ≡ soonest_below number test count }
 {
-    let mut best = None;
+    // `count` stands for none on the way: a mark beside the number would make the search slower.
+    let mut best = count;
     for i in 0..count {
         if passes(i) {
             let v = value(i);
-            match best {
-                Some(b) if value(b) <= v => {}
-                _ => best = Some(i),
+            if best == count || v < value(best) {
+                best = i;
             }
         }
     }
-    best
+    if best < count { Some(best) } else { None }
 }
 
 // The i-th core after the last served, going round.
@@ -63,13 +63,13 @@ fn holding(bus: Bus, words: Words) -> Time
     Time(bus.t.0 / bus.d.0 * words.0)
 }
 
-// Ends are numbers of 32 bits. Of a column this is known, of a struct's only if it is said.
+// No code: of a slice it is known that its numbers have 32 bits, of one in a struct only where a contract says so.
 fn ends_fit(end: &[u32])
     ensures { (z : ℕ) → at end.now z < 4294967296 }
 {}
 
 // A run under way: its phases, the words that each has left, and each core's head. A core without one has the number of phases
-// in its place.
+// in its place: with an Option the laws of heads (proofs/Heads.antt) would have two cases each.
 #[derive(Drop)]
 struct Run<'a> {
     phases: PhaseColumns<'a>,
@@ -223,12 +223,15 @@ impl Run<'_> {
     {
         let mut free = 0;
         let mut last = served as usize;
-        // No count of the turns is known before: what a grant leaves decides whether there is another.
-        while let Some(lead) = self.lead() {
+        let mut next = self.lead();
+        // What a grant leaves decides whether there is another, so no `for` fits. The next lead is sought at the end of a turn:
+        // so T/D, the same at each turn, is found once before the loop.
+        while let Some(lead) = next {
             let time = free.max(self.head_start(lead));
             let c = self.turn(last, time);
             free = self.grant(bus, time, c, out);
             last = c;
+            next = self.lead();
         }
     }
 }
