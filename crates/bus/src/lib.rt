@@ -213,13 +213,12 @@ impl Run<'_> {
         ends
     }
 
-    // Grant by grant, until no phase has words left. No code reads the declared words: what is required of the run, and what
-    // keeps its times in range, speaks of them.
-    fn grants(&mut self, bus: Bus, actual: &[u32], served: u32, out: &mut [u32])
-        requires playable { Playable bus (as_phases self.old.phases) served actual.now }
-        requires room { 2 * length actual.now ≤ length out.old }
-        requires opened { Opened bus self.old.phases.core.now self.old.phases.start.now actual.now self.old.left.now self.old.head.now out.old }
-        ensures { out.new ≡ answers bus (as_phases self.old.phases) (use_of served actual.now) ++ drop (2 * length actual.now) out.old }
+    // Grant by grant, until no phase has words left.
+    fn grants(&mut self, bus: Bus, served: u32, out: &mut [u32])
+        requires playable { Playable bus (as_phases self.old.phases) served self.old.left.now }
+        requires room { 2 * length self.old.left.now ≤ length out.old }
+        requires opened { Opened bus self.old.phases.core.now self.old.phases.start.now self.old.left.now self.old.head.now out.old }
+        ensures { out.new ≡ answers bus (as_phases self.old.phases) (use_of served self.old.left.now) ++ drop (2 * length self.old.left.now) out.old }
     {
         let mut free = 0;
         let mut last = served as usize;
@@ -252,5 +251,5 @@ pub fn play(bus: Bus, phases: PhaseColumns<'_>, actual: &[u32], served: u32, out
     let mut run = Run { phases, left, head };
     run.open_answers(out);
     run.fill_heads();
-    run.grants(bus, actual, served, out);
+    run.grants(bus, served, out);
 }

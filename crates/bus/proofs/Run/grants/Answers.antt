@@ -4,7 +4,7 @@ use Rattle.std.proofs.Common.{refl, sym, rules, ◌∙◌}
 use Rattle.bus.proofs.Run.grants.Goals as goal
 
 pub loop-next-init : goal.loop-next-init
-loop-next-init c = (refl, opening _ _ _ _ _ _ _ c.requires.playable c.requires.room c.requires.opened, c.lead-next.ensures)
+loop-next-init c = (refl, opening _ _ _ _ _ _ c.requires.playable c.requires.room c.requires.opened, c.lead-next.ensures)
 
 pub head_start-requires-clause-known : goal.head_start-requires-clause-known
 head_start-requires-clause-known c = lead_headed c.loop-next.invariant.1 _ (sym c.in-Some.is ∙ c.loop-next.invariant.2)

@@ -8,7 +8,7 @@ use Rattle.bus.proofs.Run.grants.Given as goal
 abbrev pub invariant-loop-next : goal.invariant-loop-next
 invariant-loop-next l =
     (l.self.phases ≡ l.initial.self.phases)
-    × Going l.bus l.self.phases l.served l.actual l.initial.out l.free l.last l.self.left.now l.self.head.now l.out
+    × Going l.bus l.self.phases l.served l.initial.self.left.now l.initial.out l.free l.last l.self.left.now l.self.head.now l.out
     × (l.next ≡ lead_of l.self.phases.start.now l.self.head.now (length l.self.left.now))
 
 abbrev pub decreases-loop-next : goal.decreases-loop-next
