@@ -8,11 +8,15 @@ ghost use Rattle.model.specs.Counts.{D, Settings};
 ghost use Rattle.model.specs.BusRule.{answers, held};
 ghost use Rattle.contention.specs.Views.{as_phases};
 ghost use Rattle.bus.specs.Playing.{use_of, Playable};
-ghost use Rattle.bus.specs.Heads.{Gives, soonest_below, waiting, head_of, head_start, headed, lead_of, asking_at, after_of, turn_of};
-ghost use Rattle.bus.specs.OneGrant.{opened, sits_at, with_waits, Raisable, Granting, Granted, Opened};
+ghost use Rattle.bus.specs.Heads.{Gives, soonest_below, after_of};
+ghost use Rattle.bus.specs.OneGrant.{opened};
+ghost use Rattle.bus.specs.Runs.{waits_in, head_in, headed_in, start_in, lead_in, asks_in, turn_in, sits_in, waits_added, RaisableIn, GrantingIn, GrantedIn, OpenedIn};
 
+use crate::run::Run;
 use contention::PhaseColumns;
 use model::{Bus, Time, Words};
+
+mod run;
 
 // Of the numbers below `count` that pass, the first of the least value.
 fn soonest<P: Fn(usize) -> bool, V: Fn(usize) -> u32>(
@@ -68,31 +72,19 @@ fn ends_fit(end: &[u32])
     ensures { (z : ℕ) → at end.now z < 4294967296 }
 {}
 
-// A run under way: its phases, the words that each has left, and each core's head. A core without one has the number of phases
-// in its place: with an Option the laws of heads (proofs/Heads.antt) would have two cases each.
-#[derive(Drop)]
-struct Run<'a> {
-    phases: PhaseColumns<'a>,
-    left: &'a mut [u32],
-    head: &'a mut [usize],
-    ghost counted: { length left.now ≡ length phases.core.now },
-    ghost few: { length head.now ≤ 8 },
-    ghost ends: { (z : ℕ) → at phases.end.now z < 4294967296 },
-}
-
 impl Run<'_> {
     // Phase y is on core c and has words left.
     #[tactic(auto, unfolding(crate::specs::Heads::waiting))]
     fn waits(&self, c: usize, y: usize) -> bool
         requires { y < length self.now.left.now }
-        ensures { result ≡ waiting self.now.phases.core.now self.now.left.now c y }
+        ensures { result ≡ waits_in self.now c y }
     {
         self.left[y] != 0 && self.phases.core[y] as usize == c
     }
 
     #[tactic(auto, unfolding(crate::specs::Heads::head_of))]
     fn head_of(&self, c: usize) -> usize
-        ensures { result ≡ head_of self.now.phases.core.now self.now.phases.start.now self.now.left.now c }
+        ensures { result ≡ head_in self.now c }
     {
         let count = self.left.len();
         soonest(count, |y| self.waits(c, y), |y| self.phases.start[y]).unwrap_or(count)
@@ -102,7 +94,7 @@ impl Run<'_> {
     fn fill_heads(&mut self)
         ensures phases { self.new.phases ≡ self.old.phases }
         ensures left { self.new.left.now ≡ self.old.left.now }
-        ensures heads { self.new.head.now ≡ list_below (head_of self.old.phases.core.now self.old.phases.start.now self.old.left.now) (length self.old.head.now) }
+        ensures heads { self.new.head.now ≡ list_below (head_in self.old) (length self.old.head.now) }
     {
         for c in 0..self.head.len() {
             self.head[c] = self.head_of(c);
@@ -125,7 +117,7 @@ impl Run<'_> {
     #[tactic(auto, unfolding(crate::specs::Heads::headed))]
     fn headed(&self, d: usize) -> bool
         requires { d < length self.now.head.now }
-        ensures { result ≡ headed self.now.head.now (length self.now.left.now) d }
+        ensures { result ≡ headed_in self.now d }
     {
         self.head[d] < self.left.len()
     }
@@ -134,7 +126,7 @@ impl Run<'_> {
     fn head_start(&self, d: usize) -> u32
         requires known { d < length self.now.head.now }
         requires headed { at self.now.head.now d < length self.now.left.now }
-        ensures { result ≡ head_start self.now.phases.start.now self.now.head.now d }
+        ensures { result ≡ start_in self.now d }
     {
         self.phases.start[self.head[d]]
     }
@@ -142,7 +134,7 @@ impl Run<'_> {
     // The core whose head starts first.
     #[tactic(auto, unfolding(crate::specs::Heads::lead_of, crate::specs::Heads::headed))]
     fn lead(&self) -> Option<usize>
-        ensures { result ≡ lead_of self.now.phases.start.now self.now.head.now (length self.now.left.now) }
+        ensures { result ≡ lead_in self.now }
     {
         soonest(self.head.len(), |d| self.headed(d), |d| self.head_start(d))
     }
@@ -151,7 +143,7 @@ impl Run<'_> {
     #[tactic(auto, unfolding(crate::specs::Heads::asking_at, crate::specs::Heads::headed))]
     fn asks(&self, time: u32, d: usize) -> bool
         requires { d < length self.now.head.now }
-        ensures { result ≡ asking_at self.now.phases.start.now self.now.head.now (length self.now.left.now) time d }
+        ensures { result ≡ asks_in self.now time d }
     {
         self.headed(d) && self.head_start(d) <= time
     }
@@ -160,7 +152,7 @@ impl Run<'_> {
     #[tactic(auto, using(crate::proofs::Heads::turning))]
     fn turn(&self, last: usize, time: u32) -> usize
         requires { last < length self.now.head.now }
-        ensures { result ≡ turn_of self.now.phases.start.now self.now.head.now (length self.now.left.now) last time }
+        ensures { result ≡ turn_in self.now last time }
     {
         let cores = self.head.len();
         for i in 0..cores {
@@ -176,7 +168,7 @@ impl Run<'_> {
     #[tactic(auto, unfolding(crate::specs::OneGrant::sits_at, crate::specs::Heads::headed))]
     fn sits(&self, c: usize, ends: u32, d: usize) -> bool
         requires { d < length self.now.head.now }
-        ensures { result ≡ sits_at self.now.phases.start.now self.now.head.now (length self.now.left.now) c ends d }
+        ensures { result ≡ sits_in self.now c ends d }
     {
         d != c && self.headed(d) && self.head_start(d) < ends
     }
@@ -184,8 +176,8 @@ impl Run<'_> {
     // One wait more for each core's head that sits through a grant to core c that ends at `ends`.
     #[tactic(auto, using(crate::proofs::OneGrant::raising))]
     fn add_waits(&self, c: usize, ends: u32, out: &mut [u32])
-        requires { Raisable self.now.head.now (length self.now.left.now) out.old }
-        ensures { out.new ≡ with_waits self.now.phases.start.now self.now.head.now (length self.now.left.now) c ends (length self.now.head.now) out.old }
+        requires { RaisableIn self.now out.old }
+        ensures { out.new ≡ waits_added self.now c ends out.old }
     {
         for d in 0..self.head.len() {
             if self.sits(c, ends, d) {
@@ -197,9 +189,9 @@ impl Run<'_> {
     // A grant to core c's head at `time`: the waits of the others, its end, its words, and the next head; the end is given back.
     #[tactic(auto, unfolding(crate::specs::OneGrant::size_of, crate::specs::OneGrant::sent_by, crate::specs::OneGrant::heads_after,))]
     fn grant(&mut self, bus: Bus, time: u32, c: usize, out: &mut [u32]) -> u32
-        requires { Granting bus self.old.phases.core.now self.old.phases.start.now time c self.old.left.now self.old.head.now out.old }
+        requires { GrantingIn self.old bus time c out.old }
         ensures phases { self.new.phases ≡ self.old.phases }
-        ensures granted { Granted bus self.old.phases.core.now self.old.phases.start.now time c self.old.left.now self.old.head.now out.old result self.new.left.now self.new.head.now out.new }
+        ensures granted { GrantedIn self.old bus time c out.old result self.new out.new }
     {
         let x = self.head[c];
         let size = part_of_slot(bus, Words(self.left[x]));
@@ -217,7 +209,7 @@ impl Run<'_> {
     fn grants(&mut self, bus: Bus, served: u32, out: &mut [u32])
         requires playable { Playable bus (as_phases self.old.phases) served self.old.left.now }
         requires room { 2 * length self.old.left.now ≤ length out.old }
-        requires opened { Opened bus self.old.phases.core.now self.old.phases.start.now self.old.left.now self.old.head.now out.old }
+        requires opened { OpenedIn self.old bus out.old }
         ensures { out.new ≡ answers bus (as_phases self.old.phases) (use_of served self.old.left.now) ++ drop (2 * length self.old.left.now) out.old }
     {
         let mut free = 0;

@@ -1,7 +1,7 @@
--- `bus::Run::grants` meets its contract. The columns follow the log, grant by grant (proofs/Rounds.antt).
+-- `bus::run::Run::grants` meets its contract. The columns follow the log, grant by grant (proofs/Rounds.antt).
 use Rattle.bus.proofs.Rounds.{opening, lead_headed, lead_head, last_headed, fits, less, again, done}
 use Rattle.std.proofs.Common.{refl, sym, rules, ◌∙◌}
-use Rattle.bus.proofs.Run.grants.Goals as goal
+use Rattle.bus.proofs.run.Run.grants.Goals as goal
 
 pub loop-next-init : goal.loop-next-init
 loop-next-init c = (refl, opening _ _ _ _ _ _ c.requires.playable c.requires.room c.requires.opened, c.lead-next.ensures)

@@ -1,9 +1,9 @@
--- `bus::Run::open_answers` meets its contract. Two numbers more each turn.
+-- `bus::run::Run::open_answers` meets its contract. Two numbers more each turn.
 use mathlib.Core.Path.{refl}
 use Rattle.model.proofs.Stores.{blocks_none, blocks_more, blocks_end}
 use Rattle.bus.specs.OneGrant.{opened}
 use Rattle.bus.proofs.Filled.{two_stored}
-use Rattle.bus.proofs.Run.open_answers.Goals as goal
+use Rattle.bus.proofs.run.Run.open_answers.Goals as goal
 
 pub loop-x-init : goal.loop-x-init
 loop-x-init c = blocks_none _ 2 (λ _. refl) _
