@@ -12,9 +12,9 @@ loop-i-preserved g c =
     let s = c.loop-i.invariant in
     elim c.if-passes.branch [
       | then-passes+then-best-count w ↦ elim w.then-best-count.branch [
-        | then-best-count-via-then-best-count w' ↦ best_first _ _ _ _ _ _ l s w.if-passes.ensures w'.if-best-count.true w.best-is
-        | then-best-count-via-else-best-count+then-v-value w' ↦ best_less _ _ _ _ _ _ l s _ _ w.if-passes.ensures w'.if-best-count.false w.value-v.ensures w'.value.ensures w'.if-v-value.true w.best-is
+        | then-best-count-via-then-best-count w' ↦ best_first _ _ _ l s w.if-passes.ensures w'.if-best-count.true w.best-is
+        | then-best-count-via-else-best-count+then-v-value w' ↦ best_less _ _ _ l s w.if-passes.ensures w'.if-best-count.false w.value-v.ensures w'.value.ensures w'.if-v-value.true w.best-is
       ]
-      | then-passes+else-best-count+else-v-value w ↦ best_not _ _ _ _ _ _ l s _ _ w.if-passes.ensures w.if-best-count.false w.value-v.ensures w.value.ensures w.if-v-value.false w.best-is
-      | else-passes w ↦ best_no _ _ _ _ _ _ l s w.if-passes.ensures w.best-is
+      | then-passes+else-best-count+else-v-value w ↦ best_not _ _ _ l s w.if-passes.ensures w.if-best-count.false w.value-v.ensures w.value.ensures w.if-v-value.false w.best-is
+      | else-passes w ↦ best_no _ _ _ l s w.if-passes.ensures w.best-is
     ]
