@@ -8,11 +8,15 @@ ghost use Rattle.model.specs.Counts.{D, Settings};
 ghost use Rattle.model.specs.BusRule.{answers, held};
 ghost use Rattle.contention.specs.Views.{as_phases};
 ghost use Rattle.bus.specs.Playing.{use_of, Playable};
-ghost use Rattle.bus.specs.Heads.{Gives, soonest_below, waiting, head_of, head_start, headed, lead_of, asking_at, after_of, turn_of};
-ghost use Rattle.bus.specs.OneGrant.{opened, sits_at, with_waits, Raisable, Granting, Granted, Opened};
+ghost use Rattle.bus.specs.Heads.{Gives, soonest_below, after_of};
+ghost use Rattle.bus.specs.OneGrant.{opened};
+ghost use Rattle.bus.specs.Runs.{waits_in, head_in, headed_in, start_in, lead_in, asks_in, turn_in, sits_in, waits_added, RaisableIn, GrantingIn, GrantedIn, OpenedIn};
 
+use crate::run::Run;
 use contention::PhaseColumns;
 use model::{Bus, Time, Words};
+
+mod run;
 
 // Of the numbers below `count` that pass, the first of the least value.
 fn soonest<P: Fn(usize) -> bool, V: Fn(usize) -> u32>(
@@ -24,17 +28,17 @@ fn soonest<P: Fn(usize) -> bool, V: Fn(usize) -> u32>(
     requires reads { (i : ℕ) → i < count → P.post passes i true → V.pre value i }
     ensures { (number : ℕ → ℕ) (test : ℕ → Bool) → Gives (V.post value) number count → Gives (P.post passes) test count → result ≡ soonest_below number test count }
 {
-    let mut best = None;
+    // `count` stands for none on the way: a mark beside the number would make the search slower.
+    let mut best = count;
     for i in 0..count {
         if passes(i) {
             let v = value(i);
-            match best {
-                Some(b) if value(b) <= v => {}
-                _ => best = Some(i),
+            if best == count || v < value(best) {
+                best = i;
             }
         }
     }
-    best
+    if best < count { Some(best) } else { None }
 }
 
 // The i-th core after the last served, going round.
@@ -63,60 +67,49 @@ fn holding(bus: Bus, words: Words) -> Time
     Time(bus.t.0 / bus.d.0 * words.0)
 }
 
-// Before the first grant each phase ends at its start, with no waits.
-fn open_answers(start: &[u32], count: usize, out: &mut [u32])
-    requires { (count ≤ 128) × (count ≤ length start.now) × (2 * count ≤ length out.old) }
-    ensures { out.new ≡ opened start.now count ++ drop (2 * count) out.old }
-{
-    for x in 0..count {
-        let i = 2 * x;
-        out[i] = start[x];
-        out[i + 1] = 0;
-    }
-}
-
-// Ends are numbers of 32 bits. Of a column this is known, of a struct's only if it is said.
+// No code: of a slice it is known that its numbers have 32 bits, of one in a struct only where a contract says so.
 fn ends_fit(end: &[u32])
     ensures { (z : ℕ) → at end.now z < 4294967296 }
 {}
-
-// A run under way: its phases, the words that each has left, and each core's head. A core without one has the number of phases
-// in its place.
-#[derive(Drop)]
-struct Run<'a> {
-    phases: PhaseColumns<'a>,
-    left: &'a mut [u32],
-    head: &'a mut [usize],
-    ghost counted: { length left.now ≡ length phases.core.now },
-    ghost few: { length head.now ≤ 8 },
-    ghost ends: { (z : ℕ) → at phases.end.now z < 4294967296 },
-}
 
 impl Run<'_> {
     // Phase y is on core c and has words left.
     #[tactic(auto, unfolding(crate::specs::Heads::waiting))]
     fn waits(&self, c: usize, y: usize) -> bool
         requires { y < length self.now.left.now }
-        ensures { result ≡ waiting self.now.phases.core.now self.now.left.now c y }
+        ensures { result ≡ waits_in self.now c y }
     {
         self.left[y] != 0 && self.phases.core[y] as usize == c
     }
 
     #[tactic(auto, unfolding(crate::specs::Heads::head_of))]
     fn head_of(&self, c: usize) -> usize
-        ensures { result ≡ head_of self.now.phases.core.now self.now.phases.start.now self.now.left.now c }
+        ensures { result ≡ head_in self.now c }
     {
         let count = self.left.len();
         soonest(count, |y| self.waits(c, y), |y| self.phases.start[y]).unwrap_or(count)
     }
 
+    #[tactic(auto, using(contention::proofs::Columns::filling))]
     fn fill_heads(&mut self)
         ensures phases { self.new.phases ≡ self.old.phases }
         ensures left { self.new.left.now ≡ self.old.left.now }
-        ensures heads { self.new.head.now ≡ list_below (head_of self.old.phases.core.now self.old.phases.start.now self.old.left.now) (length self.old.head.now) }
+        ensures heads { self.new.head.now ≡ list_below (head_in self.old) (length self.old.head.now) }
     {
         for c in 0..self.head.len() {
             self.head[c] = self.head_of(c);
+        }
+    }
+
+    // Before the first grant each phase ends at its start, with no waits.
+    fn open_answers(&self, out: &mut [u32])
+        requires { 2 * length self.now.left.now ≤ length out.old }
+        ensures { out.new ≡ opened self.now.phases.start.now (length self.now.left.now) ++ drop (2 * length self.now.left.now) out.old }
+    {
+        for x in 0..self.left.len() {
+            let i = 2 * x;
+            out[i] = self.phases.start[x];
+            out[i + 1] = 0;
         }
     }
 
@@ -124,7 +117,7 @@ impl Run<'_> {
     #[tactic(auto, unfolding(crate::specs::Heads::headed))]
     fn headed(&self, d: usize) -> bool
         requires { d < length self.now.head.now }
-        ensures { result ≡ headed self.now.head.now (length self.now.left.now) d }
+        ensures { result ≡ headed_in self.now d }
     {
         self.head[d] < self.left.len()
     }
@@ -133,7 +126,7 @@ impl Run<'_> {
     fn head_start(&self, d: usize) -> u32
         requires known { d < length self.now.head.now }
         requires headed { at self.now.head.now d < length self.now.left.now }
-        ensures { result ≡ head_start self.now.phases.start.now self.now.head.now d }
+        ensures { result ≡ start_in self.now d }
     {
         self.phases.start[self.head[d]]
     }
@@ -141,7 +134,7 @@ impl Run<'_> {
     // The core whose head starts first.
     #[tactic(auto, unfolding(crate::specs::Heads::lead_of, crate::specs::Heads::headed))]
     fn lead(&self) -> Option<usize>
-        ensures { result ≡ lead_of self.now.phases.start.now self.now.head.now (length self.now.left.now) }
+        ensures { result ≡ lead_in self.now }
     {
         soonest(self.head.len(), |d| self.headed(d), |d| self.head_start(d))
     }
@@ -150,7 +143,7 @@ impl Run<'_> {
     #[tactic(auto, unfolding(crate::specs::Heads::asking_at, crate::specs::Heads::headed))]
     fn asks(&self, time: u32, d: usize) -> bool
         requires { d < length self.now.head.now }
-        ensures { result ≡ asking_at self.now.phases.start.now self.now.head.now (length self.now.left.now) time d }
+        ensures { result ≡ asks_in self.now time d }
     {
         self.headed(d) && self.head_start(d) <= time
     }
@@ -159,7 +152,7 @@ impl Run<'_> {
     #[tactic(auto, using(crate::proofs::Heads::turning))]
     fn turn(&self, last: usize, time: u32) -> usize
         requires { last < length self.now.head.now }
-        ensures { result ≡ turn_of self.now.phases.start.now self.now.head.now (length self.now.left.now) last time }
+        ensures { result ≡ turn_in self.now last time }
     {
         let cores = self.head.len();
         for i in 0..cores {
@@ -175,7 +168,7 @@ impl Run<'_> {
     #[tactic(auto, unfolding(crate::specs::OneGrant::sits_at, crate::specs::Heads::headed))]
     fn sits(&self, c: usize, ends: u32, d: usize) -> bool
         requires { d < length self.now.head.now }
-        ensures { result ≡ sits_at self.now.phases.start.now self.now.head.now (length self.now.left.now) c ends d }
+        ensures { result ≡ sits_in self.now c ends d }
     {
         d != c && self.headed(d) && self.head_start(d) < ends
     }
@@ -183,8 +176,8 @@ impl Run<'_> {
     // One wait more for each core's head that sits through a grant to core c that ends at `ends`.
     #[tactic(auto, using(crate::proofs::OneGrant::raising))]
     fn add_waits(&self, c: usize, ends: u32, out: &mut [u32])
-        requires { Raisable self.now.head.now (length self.now.left.now) out.old }
-        ensures { out.new ≡ with_waits self.now.phases.start.now self.now.head.now (length self.now.left.now) c ends (length self.now.head.now) out.old }
+        requires { RaisableIn self.now out.old }
+        ensures { out.new ≡ waits_added self.now c ends out.old }
     {
         for d in 0..self.head.len() {
             if self.sits(c, ends, d) {
@@ -194,10 +187,11 @@ impl Run<'_> {
     }
 
     // A grant to core c's head at `time`: the waits of the others, its end, its words, and the next head; the end is given back.
+    #[tactic(auto, unfolding(crate::specs::OneGrant::size_of, crate::specs::OneGrant::sent_by, crate::specs::OneGrant::heads_after,))]
     fn grant(&mut self, bus: Bus, time: u32, c: usize, out: &mut [u32]) -> u32
-        requires { Granting bus self.old.phases.core.now self.old.phases.start.now time c self.old.left.now self.old.head.now out.old }
+        requires { GrantingIn self.old bus time c out.old }
         ensures phases { self.new.phases ≡ self.old.phases }
-        ensures granted { Granted bus self.old.phases.core.now self.old.phases.start.now time c self.old.left.now self.old.head.now out.old result self.new.left.now self.new.head.now out.new }
+        ensures granted { GrantedIn self.old bus time c out.old result self.new out.new }
     {
         let x = self.head[c];
         let size = part_of_slot(bus, Words(self.left[x]));
@@ -211,22 +205,24 @@ impl Run<'_> {
         ends
     }
 
-    // Grant by grant, until no phase has words left. No code reads the declared words: what is required of the run, and what
-    // keeps its times in range, speaks of them.
-    fn grants(&mut self, bus: Bus, actual: &[u32], served: u32, out: &mut [u32])
-        requires playable { Playable bus (as_phases self.old.phases) served actual.now }
-        requires room { 2 * length actual.now ≤ length out.old }
-        requires opened { Opened bus self.old.phases.core.now self.old.phases.start.now actual.now self.old.left.now self.old.head.now out.old }
-        ensures { out.new ≡ answers bus (as_phases self.old.phases) (use_of served actual.now) ++ drop (2 * length actual.now) out.old }
+    // Grant by grant, until no phase has words left.
+    fn grants(&mut self, bus: Bus, served: u32, out: &mut [u32])
+        requires playable { Playable bus (as_phases self.old.phases) served self.old.left.now }
+        requires room { 2 * length self.old.left.now ≤ length out.old }
+        requires opened { OpenedIn self.old bus out.old }
+        ensures { out.new ≡ answers bus (as_phases self.old.phases) (use_of served self.old.left.now) ++ drop (2 * length self.old.left.now) out.old }
     {
         let mut free = 0;
         let mut last = served as usize;
-        // No count of the turns is known before: what a grant leaves decides whether there is another.
-        while let Some(lead) = self.lead() {
+        let mut next = self.lead();
+        // What a grant leaves decides whether there is another, so no `for` fits. The next lead is sought at the end of a turn:
+        // so T/D, the same at each turn, is found once before the loop.
+        while let Some(lead) = next {
             let time = free.max(self.head_start(lead));
             let c = self.turn(last, time);
             free = self.grant(bus, time, c, out);
             last = c;
+            next = self.lead();
         }
     }
 }
@@ -243,9 +239,9 @@ pub fn play(bus: Bus, phases: PhaseColumns<'_>, actual: &[u32], served: u32, out
     let left = &mut left[..actual.len()];
     let head = &mut head[..bus.cores as usize];
     left.copy_from_slice(actual);
-    open_answers(phases.start, actual.len(), out);
     ends_fit(phases.end);
     let mut run = Run { phases, left, head };
+    run.open_answers(out);
     run.fill_heads();
-    run.grants(bus, actual, served, out);
+    run.grants(bus, served, out);
 }

@@ -1,7 +1,0 @@
--- `bus::open_answers`: the answers of the phases passed.
-use Rattle.std.proofs.Common.{◌≡◌, [], ◌∷◌}
-use Rattle.model.specs.Below.{at, append_below, stored}
-use Rattle.bus.proofs.open_answers.Given as goal
-
-abbrev pub invariant-loop-x : goal.invariant-loop-x
-invariant-loop-x l = l.out ≡ stored l.initial.out 0 (append_below (λ y. at l.start y ∷ 0 ∷ []) l.x)
