@@ -1,28 +1,16 @@
 -- The plan's edges by place: an edge's words within the first places, and the chains of edges. Assumes nothing.
-use mathlib.Core.Path.{◌≡◌, refl, sym, ◌∙◌}
+use mathlib.Core.Path.{◌≡◌, refl, sym, ap, ◌∙◌}
 use mathlib.Core.List.{List}
 use Prim.Native.Nat.{ℕ, zero, suc, ◌+◌, ◌≤◌, ◌<◌}
 use native.Mathlib.Numerals.{add-one}
 use native.Mathlib.Omega.{arith}
-use lib.Dec.{ltb}
 use lib.ListN.{length, set, replicate, length-set, length-replicate}
 use lib.Seq.{get_or-set_same, get_or-set_other}
-use borrow.Author.Tests.{lt-ltb, le-ltb, eq-eqb, ne_eqb}
+use borrow.Author.Tests.{eq-eqb, ne_eqb}
 use Rattle.model.specs.Below.{at}
-use Rattle.model.proofs.Tests.{same_or_not, and_no, below_suc}
+use Rattle.model.proofs.Tests.{same_or_not, below_suc}
 use Rattle.placing.specs.Candidates.{last_to}
-use Rattle.maker.specs.Renumbering.{masked_at, linked_by}
-
--- ---- words, by the numbers read
-module _ (sources targets amounts : List ℕ) (k e s t : ℕ) (es : s ≡ at sources e) (et : t ≡ at targets e) where
-  pub masked_in : s < k → t < k → at amounts e ≡ masked_at sources targets amounts k e
-  masked_in h l = rw (← es, ← et, lt-ltb s k h, lt-ltb t k l)
-
-  pub masked_later : k ≤ t → 0 ≡ masked_at sources targets amounts k e
-  masked_later l = rw (← et, le-ltb t k l, and_no (ltb (at sources e) k))
-
-pub masked_from : (sources targets amounts : List ℕ) (k e s : ℕ) → s ≡ at sources e → k ≤ s → 0 ≡ masked_at sources targets amounts k e
-masked_from sources targets amounts k e s es l = rw (← es, le-ltb s k l)
+use Rattle.maker.specs.Renumbering.{linked_by}
 
 -- ---- the chains of edges
 pub linked_length : (targets links : List ℕ) (m : ℕ) → length (linked_by targets links m) ≡ length links
@@ -30,11 +18,17 @@ unfolding linked_by
 linked_length targets links zero = refl
 linked_length targets links (suc e) = simp length-set (linked_length targets links e)
 
--- one edge more
-pub linked_more : (targets links l : List ℕ) (e a x y : ℕ) → a ≡ at targets e → l ≡ linked_by targets links e → x ≡ at l a → y ≡ e + 1
-    → set (set l (64 + e) x) a y ≡ linked_by targets links (e + 1)
+-- a loop over the edges: none yet, and one edge more
+pub linked_none : (targets links : List ℕ) → links ≡ linked_by targets links 0
 unfolding linked_by
-linked_more targets links l e a x y ea q ex ey = rw (add-one, ← q, ← ea, ex, ey)
+linked_none targets links = refl
+
+pub linked_more : (targets links l : List ℕ) (e : ℕ) → l ≡ linked_by targets links e
+    → set (set l (64 + e) (at l (at targets e))) (at targets e) (e + 1) ≡ linked_by targets links (e + 1)
+unfolding linked_by
+linked_more targets links l e q = rw q (sym (ap (linked_by targets links) (add-one e)))
+
+pub ruleset linking = (linked_none, linked_more)
 
 at_zeros : (n x : ℕ) → at (replicate n 0) x ≡ 0
 at_zeros zero x = refl

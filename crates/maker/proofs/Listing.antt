@@ -1,9 +1,9 @@
 -- A plan by list place, as its columns hold it, and the table that is made of it. Assumes nothing.
 use mathlib.Core.Path.{◌≡◌, sym, ap, subst, ◌∙◌}
 use mathlib.Core.List.{List, ◌++◌}
-use Prim.Native.Nat.{ℕ, ◌+◌, ◌*◌, ◌≤◌, ◌<◌}
+use Prim.Native.Nat.{ℕ, ◌+◌, ◌≤◌, ◌<◌}
 use native.Mathlib.Omega.{arith}
-use lib.ListN.{length, drop, replicate, length-replicate}
+use lib.ListN.{length, take, replicate, length-replicate}
 use Rattle.model.specs.Below.{at}
 use Rattle.model.specs.Plan.{Plan, Valid, tasks, edges, source, target}
 use Rattle.model.specs.Graph.{place_of, list_order}
@@ -15,6 +15,7 @@ use Rattle.model.proofs.Spans.{at_past}
 use Rattle.model.proofs.Graph.{order_length, order_place, order_task, order_taken, order_listing}
 use Rattle.model.proofs.ByPlace.{by_place_tasks, by_place_edges, by_place_cost, by_place_source, by_place_target}
 use Rattle.model.proofs.Accepts.{made_makespan_lem}
+use Rattle.contention.proofs.Columns.{fill_take}
 use Rattle.placing.specs.Candidates.{plan_by, Chained}
 use Rattle.maker.specs.Renumbering.{costs_by, places_by, linked_by}
 use Rattle.maker.specs.Choosing.{Listed, by_task, Ordered, Planned}
@@ -28,11 +29,13 @@ module _ (p : Plan) (order : List ℕ) (k : Planned p order) where
   pub order_long : length order ≡ tasks p
   order_long = ap length k.listed ∙ order_length p k.full
 
-  pub by_place : (times from to : List ℕ) → times ≡ costs_by p.costs order → from ≡ places_by order p.sources → to ≡ places_by order p.targets
-      → plan_by p.bus times from to p.amounts ≡ plan_by_place p
+  pub by_place :
+      (times from to rest_times rest_from rest_to : List ℕ) → times ≡ costs_by p.costs order ++ rest_times → from ≡ places_by order p.sources ++ rest_from
+      → to ≡ places_by order p.targets ++ rest_to
+      → plan_by p.bus (take (length order) times) (take (length p.sources) from) (take (length p.targets) to) p.amounts ≡ plan_by_place p
   unfolding plan_by_place
-  by_place times from to et ef eo =
-      rw (et, ef, eo, order_long, k.listed, v.ranges.targets_all)
+  by_place times from to rest_times rest_from rest_to et ef eo =
+      rw (fill_take _ _ _ _ et, fill_take _ _ _ _ ef, fill_take _ _ _ _ eo, order_long, k.listed, v.ranges.targets_all)
 
   pub ordered : Ordered (tasks p) order
   ordered = record { all = order_long; placed = λ i h. rw k.listed (order_place p k.full i h) }
@@ -79,7 +82,7 @@ module _ (p : Plan) (order : List ℕ) (k : Planned p order) where
   pub tasks_same : (q : Plan) → q ≡ plan_by_place p → tasks q ≡ tasks p
   tasks_same q e = ap tasks e ∙ by_place_tasks p
 
-  module _ (costs_most : (a : ℕ) → a < length order → at p.costs (at order a) < 65536) where
+  module _ (small : (a : ℕ) → at p.costs a < 65536) where
     listed_plan : (links : List ℕ) → links ≡ linked_by (plan_by_place p).targets (replicate 320 0) (edges (plan_by_place p)) → Listed (plan_by_place p) links
     unfolding plan_by_place
     listed_plan links e =
@@ -90,7 +93,7 @@ module _ (p : Plan) (order : List ℕ) (k : Planned p order) where
           settings = v.settings;
           few_tasks = omega arith;
           few_edges = omega (arith, v.ranges.few_edges);
-          costs_most = λ a h. omega (arith, by_place_cost p a (omega arith), costs_most a (omega (arith, order_long)), ap (λ (o : List ℕ). at p.costs (at o a)) k.listed);
+          costs_most = λ a h. omega (arith, by_place_cost p a (omega arith), small (at (list_order p) a));
           targets_all = targets_long;
           amounts_all = v.ranges.amounts_all ∙ sym m;
           amounts_most = v.ranges.amounts_most;
@@ -101,11 +104,9 @@ module _ (p : Plan) (order : List ℕ) (k : Planned p order) where
     listed_by q links e = subst (λ (x : Plan). links ≡ linked_by x.targets (replicate 320 0) (length x.targets) → Listed x links) (sym e) (λ l. listed_plan links (l ∙ ap (linked_by (plan_by_place p).targets (replicate 320 0)) targets_long))
 
   -- the answer and the bytes are the list rule's
-  pub made_by_lem : (q : Plan) (r : ℕ) (out new : List ℕ) → q ≡ plan_by_place p
-      → (r ≡ makespan_of (winner q)) × (new ≡ bytes (by_task order (finished (winner q))) (tasks q) ++ drop (20 * tasks q) out)
-      → (r ≡ made_makespan p) × (new ≡ made_bytes p ++ drop (20 * tasks p) out)
+  pub makespan_is : (q : Plan) → q ≡ plan_by_place p → makespan_of (winner q) ≡ made_makespan p
+  makespan_is q e = ap (λ (x : Plan). makespan_of (winner x)) e ∙ sym (made_makespan_lem p v k.full)
+
+  pub bytes_are : (q : Plan) → q ≡ plan_by_place p → bytes (by_task order (finished (winner q))) (tasks q) ≡ made_bytes p
   unfolding made_bytes made
-  made_by_lem q r out new e w = (
-    w.0 ∙ ap (λ (x : Plan). makespan_of (winner x)) e ∙ sym (made_makespan_lem p v k.full),
-    w.1 ∙ rw (e, k.listed, by_place_tasks p),
-  )
+  bytes_are q e = rw (e, k.listed, by_place_tasks p)

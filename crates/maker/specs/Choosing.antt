@@ -1,27 +1,17 @@
 -- "For each one, every core is tried in two modes .. with the earlier tasks' cores and modes kept" (document 01, "The list rule";
 -- `chosen`), over the columns by place. Assumes nothing.
-use Rattle.std.specs.Prelude.{ℕ, ◌*◌, ◌≤◌, ◌<◌, ◌≡◌, false, List, length, set}
+use Rattle.std.specs.Prelude.{ℕ, ◌+◌, ◌*◌, ◌≤◌, ◌<◌, ◌≡◌, false, List, [], ◌∷◌, ◌++◌, length}
+use Rattle.model.specs.Below.{at}
 use Rattle.model.specs.Counts.{Settings}
 use Rattle.model.specs.Plan.{Plan, Valid, tasks, edges, cost, amount}
 use Rattle.model.specs.Graph.{place_of, list_order, left_over}
 use Rattle.model.specs.Table.{Table}
-use Rattle.model.specs.ListRule.{makespan_of}
-use Rattle.model.specs.declared.Bus.{Bus}
-use Rattle.placing.specs.Candidates.{candidate_by, Chained}
+use Rattle.model.specs.ListRule.{candidate, makespan_of, chosen}
+use Rattle.placing.specs.Candidates.{Chained}
 
--- the columns that a candidate of k places is settled in
-pub record Room (k : ℕ) (cores core words lengths start end : List ℕ) : Type 0 where
-  pub by_place : k ≤ length cores
-  pub by_phase : 2 * k ≤ length core
-  pub loads : 2 * k ≤ length words
-  pub spans : 2 * k ≤ length lengths
-  pub starts : 2 * k ≤ length start
-  pub ends : 2 * k ≤ length end
-
--- the makespan with another choice at a place
-unfoldable pub span_with : Bus → List ℕ → List ℕ → List ℕ → List ℕ → List ℕ → ℕ → ℕ → ℕ
-span_with bus costs sources targets amounts choices place choice =
-    makespan_of (candidate_by bus costs sources targets amounts (set choices place choice))
+-- the makespan with a choice for place k, behind those of the places before it
+unfoldable pub span_with : Plan → ℕ → ℕ → ℕ
+span_with q k choice = makespan_of (candidate q (chosen q k ++ (choice ∷ [])))
 
 -- what holds of a plan in list order, and of the chains of its edges (`Ready` of every candidate follows from it)
 pub record Listed (q : Plan) (links : List ℕ) : Type 0 where
@@ -55,3 +45,11 @@ by_task order t =
       W = λ i. t.W (place_of order i);
       F = λ i. t.F (place_of order i);
     }
+
+-- the first n places of a table stand in the columns of a settled candidate
+pub record Placed (n : ℕ) (t : Table) (cores start end : List ℕ) : Type 0 where
+  pub core : (a : ℕ) → a < n → at cores a ≡ t.core a
+  pub R : (a : ℕ) → a < n → at start (2 * a) ≡ t.R a
+  pub E : (a : ℕ) → a < n → at end (2 * a) ≡ t.E a
+  pub W : (a : ℕ) → a < n → at start (2 * a + 1) ≡ t.W a
+  pub F : (a : ℕ) → a < n → at end (2 * a + 1) ≡ t.F a

@@ -1,7 +1,7 @@
 -- The plan in list order as the maker keeps it, in columns by list place: "Tasks are added in that order. Words count only edges
--- between tasks already added, the new one included." (document 01, "The list rule"; `plan_by_place` and `added`), and the table by
--- task, from the columns of its phases by place. Assumes nothing.
-use Rattle.std.specs.Prelude.{ℕ, zero, suc, ◌+◌, ◌*◌, ◌/◌, ◌%◌, ◌≤◌, ◌<◌, cond, ◌&&◌, List, length, set, ltb, eqb}
+-- between tasks already added, the new one included." (document 01, "The list rule"; `plan_by_place` and `added`), and the table,
+-- from the columns of its phases by place. Assumes nothing.
+use Rattle.std.specs.Prelude.{ℕ, zero, suc, ◌+◌, ◌*◌, cond, ◌&&◌, List, length, set, ltb}
 use Rattle.model.specs.Below.{at, list_below}
 use Rattle.model.specs.Graph.{place_of}
 use Rattle.model.specs.Table.{Table}
@@ -29,28 +29,13 @@ linked_by targets links (suc e) =
     let a = at targets e in
     set (set l (64 + e) (at l a)) a (e + 1)
 
--- ---- the table by task: of the task at place a, its core and the windows of phases 2a and 2a + 1
-abbrev pub table_by : List ℕ → List ℕ → List ℕ → List ℕ → Table
-table_by order cores start end =
+-- ---- the table by place, from the columns of its phases
+abbrev pub rows_by : List ℕ → List ℕ → List ℕ → Table
+rows_by cores start end =
     record {
-      core = λ i. at cores (place_of order i);
-      R = λ i. at start (2 * place_of order i);
-      E = λ i. at end (2 * place_of order i);
-      W = λ i. at start (2 * place_of order i + 1);
-      F = λ i. at end (2 * place_of order i + 1);
+      core = at cores;
+      R = λ a. at start (2 * a);
+      E = λ a. at end (2 * a);
+      W = λ a. at start (2 * a + 1);
+      F = λ a. at end (2 * a + 1);
     }
-
--- every task has a place, and every place its entries
-pub record Rows (order cores start end : List ℕ) : Type 0 where
-  pub few : length order ≤ 64
-  pub placed : (i : ℕ) → i < length order → place_of order i < length order
-  pub cores_all : length order ≤ length cores
-  pub starts_all : 2 * length order ≤ length start
-  pub ends_all : 2 * length order ≤ length end
-
--- number x of its records of five
-unfoldable pub number_of : Table → ℕ → ℕ
-number_of t x =
-    let i = x / 5 in
-    let m = x % 5 in
-    cond (eqb m 0) (t.core i) (cond (eqb m 1) (t.R i) (cond (eqb m 2) (t.E i) (cond (eqb m 3) (t.W i) (t.F i))))

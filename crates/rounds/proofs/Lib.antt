@@ -1,4 +1,4 @@
 pub mod Fronts
 pub mod Growth
-pub mod Turns
 pub mod Settling
+pub mod Turns

@@ -1,193 +1,175 @@
 // The rounds of a candidate of the list rule, from its choices to its settled windows. Columns are by phase as everywhere: phase
-// 2a is place a's read, 2a + 1 its write.
+// 2a is place a's read, 2a + 1 its write. They stay slices, each by itself: a caller lends columns of any length that has room.
 #![tactic(auto)]
 
-ghost use Rattle.std.specs.Prelude.{◌≡◌, ◌++◌, ℕ, ◌+◌, ◌*◌, ◌-◌, ◌/◌, ◌≤◌, ◌<◌, max, ltb, length, drop, set};
+ghost use Rattle.std.specs.Prelude.{◌≡◌, ◌++◌, ℕ, ◌+◌, ◌*◌, ◌-◌, ◌/◌, ◌≤◌, ◌<◌, max, ltb, length, drop};
 ghost use Rattle.model.specs.Below.{at, max_below, any_below, list_below};
 ghost use Rattle.model.specs.Counts.{delay as delay_of, most_words, Settings};
-ghost use Rattle.model.specs.Contention.{phase_words};
 ghost use Rattle.model.specs.Rules.{delay_at};
 ghost use Rattle.model.specs.ListRule.{core_in, first_lengths, settled, finished, makespan_of};
-ghost use Rattle.contention.specs.Columns.{phases_by, Sized, edges_by, Edges, core_column, start_column, end_column};
-ghost use Rattle.placing.specs.Candidates.{candidate_by, Ready, FewCores};
+ghost use Rattle.contention.specs.Columns.{core_column, start_column, end_column};
+ghost use Rattle.contention.specs.Views.{as_phases};
+ghost use Rattle.placing.specs.Candidates.{FewCores};
 ghost use Rattle.placing.specs.Starts.{Prepared};
+ghost use Rattle.placing.specs.Views.{as_candidate};
 ghost use Rattle.rounds.specs.Standing.{Standing};
 
+use contention::PhaseColumns;
 use model::{Bus, Words};
+use placing::{Candidate, PhaseLoads};
 
 // The core of each place.
-fn fill_cores(choices: &[u32], tasks: usize, cores: &mut [u32])
-    requires { (tasks ≤ length choices.now) × (tasks ≤ length cores.old) }
-    ensures { cores.new ≡ list_below (core_in choices.now) tasks ++ drop tasks cores.old }
+#[tactic(auto, using(contention::proofs::Columns::filling))]
+fn fill_cores(choices: &[u32], cores: &mut [u32])
+    requires { length choices.now ≤ length cores.old }
+    ensures { cores.new ≡ list_below (core_in choices.now) (length choices.now) ++ drop (length choices.now) cores.old }
 {
-    for a in 0..tasks {
+    for a in 0..choices.len() {
         cores[a] = choices[a] / 2;
     }
 }
 
 // The core of each phase.
-fn fill_phases(choices: &[u32], tasks: usize, core: &mut [u32])
-    requires { (tasks ≤ length choices.now) × (2 * tasks ≤ length core.old) }
-    ensures { core.new ≡ list_below (λ x. core_in choices.now (x / 2)) (2 * tasks) ++ drop (2 * tasks) core.old }
+#[tactic(auto, using(contention::proofs::Columns::filling))]
+fn fill_phases(choices: &[u32], core: &mut [u32])
+    requires { 2 * length choices.now ≤ length core.old }
+    ensures { core.new ≡ list_below (λ x. core_in choices.now (x / 2)) (2 * length choices.now) ++ drop (2 * length choices.now) core.old }
 {
-    for x in 0..2 * tasks {
+    for x in 0..2 * choices.len() {
         core[x] = choices[x / 2] / 2;
     }
 }
 
-// The words of each phase.
-fn fill_words(
-    sources: &[u8],
-    targets: &[u8],
-    amounts: &[u16],
-    cores: &[u32],
-    tasks: usize,
-    words: &mut [u32],
-)
-    requires { Edges tasks sources.now targets.now amounts.now × (tasks ≤ length cores.now) × (2 * tasks ≤ length words.old) }
-    ensures { words.new ≡ phase_words (edges_by tasks sources.now targets.now amounts.now) (at cores.now) ++ drop (2 * tasks) words.old }
-{
-    contention::phase_words(sources, targets, amounts, &cores[..tasks], words);
-}
-
 // Step 1: window lengths start at the delay with no rivals.
-fn first_lengths(bus: Bus, words: &[u32], count: usize, lengths: &mut [u32])
-    requires { Settings bus × (count ≤ length words.now) × (count ≤ length lengths.old) × ((x : ℕ) → x < count → at words.now x ≤ most_words) }
-    ensures { lengths.new ≡ list_below (λ x. delay_of bus (at words.now x) 0) count ++ drop count lengths.old }
+#[tactic(auto, using(contention::proofs::Columns::filling))]
+fn first_lengths(bus: Bus, words: &[u32], lengths: &mut [u32])
+    requires settings { Settings bus }
+    requires loads { (x : ℕ) → x < length words.now → at words.now x ≤ most_words }
+    requires room { length words.now ≤ length lengths.old }
+    ensures { lengths.new ≡ list_below (λ x. delay_of bus (at words.now x) 0) (length words.now) ++ drop (length words.now) lengths.old }
 {
-    for x in 0..count {
-        let delay = model::delay(bus, Words(words[x]), 0);
-        lengths[x] = delay.0;
+    for x in 0..words.len() {
+        lengths[x] = model::delay(bus, Words(words[x]), 0).0;
     }
-}
-
-// A window shorter than its delay takes that delay. Answers whether it grew.
-fn grow_at(due: &[u32], x: usize, lengths: &mut [u32]) -> bool
-    requires { (x < length due.now) × (x < length lengths.old) }
-    ensures { (result ≡ ltb (at lengths.old x) (at due.now x)) × (lengths.new ≡ set lengths.old x (max (at lengths.old x) (at due.now x))) }
-{
-    let delay = due[x];
-    if lengths[x] < delay {
-        lengths[x] = delay;
-        return true;
-    }
-    false
 }
 
 // All windows shorter than their delays take them. Answers whether one grew.
-fn grow_all(due: &[u32], count: usize, lengths: &mut [u32]) -> bool
-    requires { (count ≤ length due.now) × (count ≤ length lengths.old) }
-    ensures { (result ≡ any_below (λ x. ltb (at lengths.old x) (at due.now x)) count) × (lengths.new ≡ list_below (λ x. max (at lengths.old x) (at due.now x)) count ++ drop count lengths.old) }
+#[tactic(auto, using(contention::proofs::Columns::filling))]
+fn grow_all(due: &[u32], lengths: &mut [u32]) -> bool
+    requires { length due.now ≤ length lengths.old }
+    ensures grew { result ≡ any_below (λ x. ltb (at lengths.old x) (at due.now x)) (length due.now) }
+    ensures grown { lengths.new ≡ list_below (λ x. max (at lengths.old x) (at due.now x)) (length due.now) ++ drop (length due.now) lengths.old }
 {
     let mut grew = false;
-    for x in 0..count {
-        grew = grew | grow_at(due, x, lengths);
+    for x in 0..due.len() {
+        grew |= lengths[x] < due[x];
+        lengths[x] = lengths[x].max(due[x]);
     }
     grew
 }
 
 // Step 3: rivals are counted on the windows as they stand, and all short windows grow. Answers whether one grew.
-fn grow(
-    bus: Bus,
-    core: &[u32],
-    start: &[u32],
-    end: &[u32],
-    words: &[u32],
-    count: usize,
-    lengths: &mut [u32],
-) -> bool
-    requires { Settings bus × Sized core.now start.now end.now words.now count × ((x : ℕ) → x < count → at words.now x ≤ most_words) × (count ≤ length lengths.old) }
-    ensures { (result ≡ any_below (λ x. ltb (at lengths.old x) (delay_at bus (phases_by core.now start.now end.now words.now count) x)) count) × (lengths.new ≡ list_below (λ x. max (at lengths.old x) (delay_at bus (phases_by core.now start.now end.now words.now count) x)) count ++ drop count lengths.old) }
+fn grow(bus: Bus, phases: PhaseColumns<'_>, lengths: &mut [u32]) -> bool
+    requires settings { Settings bus }
+    requires loads { (x : ℕ) → x < length phases.core.now → at phases.words.now x ≤ most_words }
+    requires room { length phases.core.now ≤ length lengths.old }
+    ensures grew { result ≡ any_below (λ x. ltb (at lengths.old x) (delay_at bus (as_phases phases.entry) x)) (length phases.entry.core.now) }
+    ensures grown { lengths.new ≡ list_below (λ x. max (at lengths.old x) (delay_at bus (as_phases phases.entry) x)) (length phases.entry.core.now) ++ drop (length phases.entry.core.now) lengths.old }
 {
     let mut due = [0u32; 128];
-    contention::phase_delays(bus, core, start, end, words, count, &mut due);
-    grow_all(&due, count, lengths)
+    contention::phase_delays(bus, phases, &mut due);
+    grow_all(&due[..phases.core.len()], lengths)
 }
 
 // So many rounds settle a candidate: each that grows a window charges it for a rival more.
 fn most_rounds(tasks: usize, cores: u32) -> usize
-    requires { (tasks ≤ 64) × (1 ≤ cores) × (cores ≤ 8) }
+    requires few { tasks ≤ 64 }
+    requires some { 1 ≤ cores }
+    requires most { cores ≤ 8 }
     ensures { result ≡ 2 * tasks * (cores - 1) }
 {
-    let rivals = cores - 1;
-    2 * tasks * (rivals as usize)
+    2 * tasks * (cores as usize - 1)
 }
 
 // The rounds: if one window grew, all are placed anew, until none grows.
+#[tactic(auto, unfolding(model::specs::ListRule::rounds, model::specs::ListRule::settled))]
 fn run_rounds(
-    bus: Bus,
-    costs: &[u32],
-    sources: &[u8],
-    targets: &[u8],
-    amounts: &[u16],
-    links: &[u16],
-    choices: &[u32],
+    candidate: Candidate<'_>,
     core: &[u32],
     words: &[u32],
     lengths: &mut [u32],
     start: &mut [u32],
     end: &mut [u32],
 )
-    requires { Ready bus costs.now sources.now targets.now amounts.now links.now choices.now × Prepared (candidate_by bus costs.now sources.now targets.now amounts.now choices.now) core.now words.now lengths.old × Standing (candidate_by bus costs.now sources.now targets.now amounts.now choices.now) (first_lengths (candidate_by bus costs.now sources.now targets.now amounts.now choices.now)) lengths.old start.old end.old lengths.old start.old end.old × (2 * length costs.now ≤ length start.old) × (2 * length costs.now ≤ length end.old) × FewCores choices.now (length costs.now) }
-    ensures { Standing (candidate_by bus costs.now sources.now targets.now amounts.now choices.now) (settled (candidate_by bus costs.now sources.now targets.now amounts.now choices.now)) lengths.old start.old end.old lengths.new start.new end.new }
+    requires prepared { Prepared (as_candidate candidate) core.now words.now lengths.old }
+    requires standing { Standing (as_candidate candidate) (first_lengths (as_candidate candidate)) lengths.old start.old end.old lengths.old start.old end.old }
+    requires starts_room { 2 * length candidate.costs.now ≤ length start.old }
+    requires ends_room { 2 * length candidate.costs.now ≤ length end.old }
+    requires few_cores { FewCores candidate.choices.now (length candidate.costs.now) }
+    ensures { Standing (as_candidate candidate.entry) (settled (as_candidate candidate.entry)) lengths.old start.old end.old lengths.new start.new end.new }
 {
-    let tasks = costs.len();
-    for n in 0..most_rounds(tasks, bus.cores) {
-        let grew = grow(bus, core, start, end, words, 2 * tasks, lengths);
-        if !grew {
+    let tasks = candidate.costs.len();
+    for n in 0..most_rounds(tasks, candidate.bus.cores) {
+        let phases = PhaseColumns {
+            core: &core[..2 * tasks],
+            start,
+            end,
+            words,
+        };
+        if !grow(candidate.bus, phases, lengths) {
             return;
         }
-        placing::place(
-            bus, costs, sources, targets, amounts, links, choices, core, words, lengths, start, end,
-        );
+        let loads = PhaseLoads {
+            core,
+            words,
+            lengths,
+        };
+        placing::place(candidate, loads, start, end);
     }
 }
 
 // The greatest F.
+#[tactic(auto, using(contention::proofs::Columns::filling))]
 fn greatest_end(end: &[u32], tasks: usize) -> u32
     requires { 2 * tasks ≤ length end.now }
     ensures { result ≡ max_below (λ a. at end.now (2 * a + 1)) tasks }
 {
-    let mut most: u32 = 0;
+    let mut most = 0;
     for a in 0..tasks {
-        most = contention::later(most, end[2 * a + 1]);
+        most = end[2 * a + 1].max(most);
     }
     most
 }
 
 // What is fixed while the rounds run, cores and words, and the first lengths.
 fn prepare(
-    bus: Bus,
-    costs: &[u32],
-    sources: &[u8],
-    targets: &[u8],
-    amounts: &[u16],
-    links: &[u16],
-    choices: &[u32],
+    candidate: Candidate<'_>,
     cores: &mut [u32],
     core: &mut [u32],
     words: &mut [u32],
     lengths: &mut [u32],
 )
-    requires { Ready bus costs.now sources.now targets.now amounts.now links.now choices.now × (length costs.now ≤ length cores.old) × (2 * length costs.now ≤ length core.old) × (2 * length costs.now ≤ length words.old) × (2 * length costs.now ≤ length lengths.old) }
-    ensures { (cores.new ≡ list_below (core_in choices.now) (length costs.now) ++ drop (length costs.now) cores.old) × (core.new ≡ list_below (λ x. core_in choices.now (x / 2)) (2 * length costs.now) ++ drop (2 * length costs.now) core.old) × (words.new ≡ (candidate_by bus costs.now sources.now targets.now amounts.now choices.now).words ++ drop (2 * length costs.now) words.old) × (lengths.new ≡ first_lengths (candidate_by bus costs.now sources.now targets.now amounts.now choices.now) ++ drop (2 * length costs.now) lengths.old) }
+    requires cores_room { length candidate.costs.now ≤ length cores.old }
+    requires core_room { 2 * length candidate.costs.now ≤ length core.old }
+    requires words_room { 2 * length candidate.costs.now ≤ length words.old }
+    requires lengths_room { 2 * length candidate.costs.now ≤ length lengths.old }
+    ensures prepared { Prepared (as_candidate candidate.entry) core.new words.new lengths.new }
+    ensures cores { cores.new ≡ list_below (core_in candidate.entry.choices.now) (length candidate.entry.costs.now) ++ drop (length candidate.entry.costs.now) cores.old }
+    ensures core { core.new ≡ list_below (λ x. core_in candidate.entry.choices.now (x / 2)) (2 * length candidate.entry.costs.now) ++ drop (2 * length candidate.entry.costs.now) core.old }
+    ensures words { words.new ≡ (as_candidate candidate.entry).words ++ drop (2 * length candidate.entry.costs.now) words.old }
+    ensures lengths { lengths.new ≡ first_lengths (as_candidate candidate.entry) ++ drop (2 * length candidate.entry.costs.now) lengths.old }
 {
-    let tasks = costs.len();
-    fill_cores(choices, tasks, cores);
-    fill_phases(choices, tasks, core);
-    fill_words(sources, targets, amounts, cores, tasks, words);
-    first_lengths(bus, words, 2 * tasks, lengths);
+    let tasks = candidate.costs.len();
+    fill_cores(candidate.choices, cores);
+    fill_phases(candidate.choices, core);
+    contention::phase_words(candidate.edges, &cores[..tasks], words);
+    first_lengths(candidate.bus, &words[..2 * tasks], lengths);
 }
 
 // A candidate settled: its makespan, and its cores, words, lengths and windows in the lent columns.
+#[tactic(auto, unfolding(model::specs::ListRule::finished, model::specs::ListRule::placed))]
 pub fn settle(
-    bus: Bus,
-    costs: &[u32],
-    sources: &[u8],
-    targets: &[u8],
-    amounts: &[u16],
-    links: &[u16],
-    choices: &[u32],
+    candidate: Candidate<'_>,
     cores: &mut [u32],
     core: &mut [u32],
     words: &mut [u32],
@@ -195,18 +177,28 @@ pub fn settle(
     start: &mut [u32],
     end: &mut [u32],
 ) -> u32
-    requires { Ready bus costs.now sources.now targets.now amounts.now links.now choices.now × (length costs.now ≤ length cores.old) × (2 * length costs.now ≤ length core.old) × (2 * length costs.now ≤ length words.old) × (2 * length costs.now ≤ length lengths.old) × (2 * length costs.now ≤ length start.old) × (2 * length costs.now ≤ length end.old) × FewCores choices.now (length costs.now) }
-    ensures span { result ≡ makespan_of (candidate_by bus costs.now sources.now targets.now amounts.now choices.now) }
-    ensures columns { (cores.new ≡ list_below (core_in choices.now) (length costs.now) ++ drop (length costs.now) cores.old) × (core.new ≡ core_column (length costs.now) (finished (candidate_by bus costs.now sources.now targets.now amounts.now choices.now)) ++ drop (2 * length costs.now) core.old) × (words.new ≡ (candidate_by bus costs.now sources.now targets.now amounts.now choices.now).words ++ drop (2 * length costs.now) words.old) × (lengths.new ≡ settled (candidate_by bus costs.now sources.now targets.now amounts.now choices.now) ++ drop (2 * length costs.now) lengths.old) × (start.new ≡ start_column (length costs.now) (finished (candidate_by bus costs.now sources.now targets.now amounts.now choices.now)) ++ drop (2 * length costs.now) start.old) × (end.new ≡ end_column (length costs.now) (finished (candidate_by bus costs.now sources.now targets.now amounts.now choices.now)) ++ drop (2 * length costs.now) end.old) }
+    requires few_cores { FewCores candidate.choices.now (length candidate.costs.now) }
+    requires cores_room { length candidate.costs.now ≤ length cores.old }
+    requires core_room { 2 * length candidate.costs.now ≤ length core.old }
+    requires words_room { 2 * length candidate.costs.now ≤ length words.old }
+    requires lengths_room { 2 * length candidate.costs.now ≤ length lengths.old }
+    requires starts_room { 2 * length candidate.costs.now ≤ length start.old }
+    requires ends_room { 2 * length candidate.costs.now ≤ length end.old }
+    ensures span { result ≡ makespan_of (as_candidate candidate.entry) }
+    ensures cores { cores.new ≡ list_below (core_in candidate.entry.choices.now) (length candidate.entry.costs.now) ++ drop (length candidate.entry.costs.now) cores.old }
+    ensures core { core.new ≡ core_column (length candidate.entry.costs.now) (finished (as_candidate candidate.entry)) ++ drop (2 * length candidate.entry.costs.now) core.old }
+    ensures words { words.new ≡ (as_candidate candidate.entry).words ++ drop (2 * length candidate.entry.costs.now) words.old }
+    ensures lengths { lengths.new ≡ settled (as_candidate candidate.entry) ++ drop (2 * length candidate.entry.costs.now) lengths.old }
+    ensures starts { start.new ≡ start_column (length candidate.entry.costs.now) (finished (as_candidate candidate.entry)) ++ drop (2 * length candidate.entry.costs.now) start.old }
+    ensures ends { end.new ≡ end_column (length candidate.entry.costs.now) (finished (as_candidate candidate.entry)) ++ drop (2 * length candidate.entry.costs.now) end.old }
 {
-    prepare(
-        bus, costs, sources, targets, amounts, links, choices, cores, core, words, lengths,
-    );
-    placing::place(
-        bus, costs, sources, targets, amounts, links, choices, core, words, lengths, start, end,
-    );
-    run_rounds(
-        bus, costs, sources, targets, amounts, links, choices, core, words, lengths, start, end,
-    );
-    greatest_end(end, costs.len())
+    prepare(candidate, cores, core, words, lengths);
+    let loads = PhaseLoads {
+        core,
+        words,
+        lengths,
+    };
+    placing::place(candidate, loads, start, end);
+    run_rounds(candidate, core, words, lengths, start, end);
+    greatest_end(end, candidate.costs.len())
 }

@@ -1,14 +1,10 @@
 -- `maker::place_of` meets its contract. The task stands nowhere before.
 use Rattle.model.specs.Below.{at}
 use lib.Dec.{eqb}
-use lib.ListN.{length}
-use Prim.Native.Nat.{ℕ, ◌≤◌, ◌<◌, ◌-◌}
+use Prim.Native.Nat.{ℕ, ◌<◌}
 use mathlib.Core.Bool.{false}
 use mathlib.Core.Path.{◌≡◌}
 use Rattle.maker.proofs.place_of.Given as goal
 
 abbrev pub invariant-loop-a : goal.invariant-loop-a
-invariant-loop-a l = (l.a ≤ length l.order) × ((b : ℕ) → b < l.a → eqb (at l.order b) l.task ≡ false)
-
-abbrev pub decreases-loop-a : goal.decreases-loop-a
-decreases-loop-a l = length l.order - l.a
+invariant-loop-a l = (b : ℕ) → b < l.a → eqb (at l.order b) l.task ≡ false

@@ -1,14 +1,19 @@
--- `rounds::prepare` meets its contract. Each column in its turn.
-use Rattle.rounds.proofs.Settling.{words_are, words_fit, lengths_are}
-use borrow.Author.Rules.{rules}
+-- `rounds::prepare` meets its contract. The words by the cores filled, and the lengths by the words.
+use Rattle.rounds.proofs.Settling.{words_are, words_fit, lengths_are, prepared_first}
 use Rattle.rounds.proofs.prepare.Goals as goal
 
-pub first_lengths-requires : goal.first_lengths-requires
-first_lengths-requires c =
-    let w = words_are _ _ _ _ _ _ _ c.requires.0 _ _ _ _ c.fill_cores.ensures c.fill_words.ensures in
-    (c.requires.0.settings, search rules, search rules, words_fit _ _ _ _ _ _ _ c.requires.0 _ _ w)
+pub returns-clause-words : goal.returns-clause-words
+returns-clause-words c = words_are c.args.candidate _ _ _ _ c.fill_cores.ensures c.phase_words.ensures
 
-pub returns : goal.returns
-returns c =
-    let w = words_are _ _ _ _ _ _ _ c.requires.0 _ _ _ _ c.fill_cores.ensures c.fill_words.ensures in
-    (c.fill_cores.ensures, c.fill_phases.ensures, w, lengths_are _ _ _ _ _ _ _ c.requires.0 _ _ w _ _ c.first_lengths.ensures)
+pub first_lengths-requires-clause-loads : goal.first_lengths-requires-clause-loads
+first_lengths-requires-clause-loads c =
+    words_fit c.args.candidate _ _ (words_are c.args.candidate _ _ c.args.words.now _ c.fill_cores.ensures c.phase_words.ensures)
+
+pub returns-clause-lengths : goal.returns-clause-lengths
+returns-clause-lengths c =
+    lengths_are c.args.candidate _ _ (words_are c.args.candidate _ _ c.args.words.now _ c.fill_cores.ensures c.phase_words.ensures) _ _ c.first_lengths.ensures
+
+pub returns-clause-prepared : goal.returns-clause-prepared
+returns-clause-prepared c =
+    let w = words_are c.args.candidate _ _ c.args.words.now _ c.fill_cores.ensures c.phase_words.ensures in
+    prepared_first c.args.candidate _ _ w _ _ _ _ c.fill_phases.ensures (lengths_are c.args.candidate _ _ w _ _ c.first_lengths.ensures)

@@ -1,0 +1,185 @@
+// The candidates of a plan in list order, tried place by place.
+ghost use Rattle.std.specs.Prelude.{◌≡◌, ◌++◌, ℕ, ◌+◌, ◌*◌, ◌≤◌, ◌<◌, length, take, drop};
+ghost use Rattle.model.specs.Below.{at};
+ghost use Rattle.model.specs.Graph.{place_of};
+ghost use Rattle.model.specs.Table.{numbers_at, numbers as numbers_of, bytes};
+ghost use Rattle.model.specs.ListRule.{candidate, finished, makespan_of, chosen, winner};
+ghost use Rattle.placing.specs.Candidates.{FewCores};
+ghost use Rattle.maker.specs.Choosing.{span_with, by_task, Placed};
+ghost use Rattle.maker.specs.Renumbering.{rows_by};
+ghost use Rattle.maker.specs.Views.{plan_in, Within};
+
+use crate::{ByPlace, mask, place_of};
+use contention::EdgeColumns;
+use placing::Candidate;
+
+// A candidate at work: the words of the edges within its places, its choices, and the columns that it is settled in.
+#[derive(Drop)]
+pub struct Trial {
+    pub within: [u16; 256],
+    pub choices: [u32; 64],
+    pub cores: [u32; 64],
+    pub core: [u32; 128],
+    pub words: [u32; 128],
+    pub lengths: [u32; 128],
+    pub start: [u32; 128],
+    pub end: [u32; 128],
+}
+
+impl Trial {
+    // The candidate of the first n places, with its choices, settled: its makespan, and its windows in the columns.
+    fn settle(&mut self, plan: &ByPlace<'_>, n: usize) -> u32
+        requires places { n ≤ length plan.now.costs.now }
+        requires within { Within plan.now n self.old.within }
+        requires few_cores { FewCores (take n self.old.choices) n }
+        ensures span { result ≡ makespan_of (candidate (plan_in plan.now) (take n self.old.choices)) }
+        ensures within { self.new.within ≡ self.old.within }
+        ensures choices { self.new.choices ≡ self.old.choices }
+        ensures placed { Placed n (finished (candidate (plan_in plan.now) (take n self.old.choices))) self.new.cores self.new.start self.new.end }
+    {
+        let candidate = Candidate {
+            bus: plan.bus,
+            costs: &plan.costs[..n],
+            edges: EdgeColumns {
+                amounts: &self.within[..plan.edges.sources.len()],
+                ..plan.edges
+            },
+            links: plan.links,
+            choices: &self.choices[..n],
+        };
+        rounds::settle(
+            candidate,
+            &mut self.cores,
+            &mut self.core,
+            &mut self.words,
+            &mut self.lengths,
+            &mut self.start,
+            &mut self.end,
+        )
+    }
+
+    // The makespan with a choice for place k, behind those of the places before it.
+    fn span_with(&mut self, plan: &ByPlace<'_>, k: usize, choice: u32) -> u32
+        requires place_in { k < length plan.now.costs.now }
+        requires within { Within plan.now (k + 1) self.old.within }
+        requires kept { take k self.old.choices ≡ chosen (plan_in plan.now) k }
+        requires few_cores { choice < 16 }
+        ensures span { result ≡ span_with (plan_in plan.now) k choice }
+        ensures within { self.new.within ≡ self.old.within }
+        ensures kept { take k self.new.choices ≡ take k self.old.choices }
+    {
+        self.choices[k] = choice;
+        self.settle(plan, k + 1)
+    }
+
+    // The choice of place k, behind those of the places before it: the first of those with the least makespan.
+    #[tactic(auto, using(crate::proofs::Choosing::leading_none))]
+    fn choose(&mut self, plan: &ByPlace<'_>, k: usize)
+        requires place_in { k < length plan.now.costs.now }
+        requires within { Within plan.now (k + 1) self.old.within }
+        requires kept { take k self.old.choices ≡ chosen (plan_in plan.now) k }
+        ensures { take (k + 1) self.new.choices ≡ chosen (plan_in plan.now) (k + 1) }
+    {
+        // more than any makespan
+        let mut least = u32::MAX;
+        let mut best = 0;
+        for choice in 0..2 * plan.bus.cores {
+            let span = self.span_with(plan, k, choice);
+            if span < least {
+                least = span;
+                best = choice;
+            }
+        }
+        self.choices[k] = best;
+    }
+
+    // The choices of all places, in list order.
+    #[tactic(auto, unfolding(model::specs::ListRule::chosen))]
+    fn choose_all(&mut self, plan: &ByPlace<'_>)
+        ensures { take (length plan.now.costs.now) self.new.choices ≡ chosen (plan_in plan.now) (length plan.now.costs.now) }
+    {
+        for k in 0..plan.costs.len() {
+            mask(plan.edges, k + 1, &mut self.within);
+            self.choose(plan, k);
+        }
+    }
+
+    // The numbers of task i.
+    #[tactic(auto, unfolding(model::specs::Table::numbers_at))]
+    fn row(&self, order: &[u8], i: usize) -> [u32; 5]
+        requires { place_of order.now i < 64 }
+        ensures { result ≡ numbers_at (by_task order.now (rows_by self.now.cores self.now.start self.now.end)) i }
+    {
+        let a = place_of(order, i);
+        let read = 2 * a;
+        let write = read + 1;
+        [
+            self.cores[a],
+            self.start[read],
+            self.end[read],
+            self.start[write],
+            self.end[write],
+        ]
+    }
+
+    // The numbers of all tasks.
+    #[tactic(auto, using(table::proofs::Rows::number_blocks, table::proofs::Rows::numbers_long, model::proofs::Stores::part_stored))]
+    fn fill_numbers(&self, order: &[u8], numbers: &mut [u32])
+        requires few { length order.now ≤ 64 }
+        requires placed { (i : ℕ) → i < length order.now → place_of order.now i < length order.now }
+        requires room { 5 * length order.now ≤ length numbers.old }
+        ensures { numbers.new ≡ numbers_of (by_task order.now (rows_by self.now.cores self.now.start self.now.end)) (length order.now) ++ drop (5 * length order.now) numbers.old }
+    {
+        for i in 0..order.len() {
+            numbers[5 * i..5 * i + 5].copy_from_slice(&self.row(order, i));
+        }
+    }
+
+    // The bytes of the table, at the front of a lent output.
+    fn put_table(&self, order: &[u8], out: &mut [u8])
+        requires few { length order.now ≤ 64 }
+        requires placed { (i : ℕ) → i < length order.now → place_of order.now i < length order.now }
+        requires few_cores { (a : ℕ) → a < length order.now → at self.now.cores a < 256 }
+        requires room { 20 * length order.now ≤ length out.old }
+        ensures { out.new ≡ bytes (by_task order.now (rows_by self.now.cores self.now.start self.now.end)) (length order.now) ++ drop (20 * length order.now) out.old }
+    {
+        let mut numbers = [0u32; 320];
+        let tasks = order.len();
+        self.fill_numbers(order, &mut numbers);
+        table::put_rows(&numbers[..5 * tasks], tasks, out);
+    }
+
+    // The winner settled once more: its makespan, and the bytes of its table, by task, at the front of a lent output.
+    fn finish(&mut self, plan: &ByPlace<'_>, out: &mut [u8]) -> u32
+        requires chosen { take (length plan.now.costs.now) self.old.choices ≡ chosen (plan_in plan.now) (length plan.now.costs.now) }
+        requires room { 20 * length plan.now.costs.now ≤ length out.old }
+        ensures span { result ≡ makespan_of (winner (plan_in plan.now)) }
+        ensures table { out.new ≡ bytes (by_task plan.now.order.now (finished (winner (plan_in plan.now)))) (length plan.now.costs.now) ++ drop (20 * length plan.now.costs.now) out.old }
+    {
+        let tasks = plan.costs.len();
+        mask(plan.edges, tasks, &mut self.within);
+        let span = self.settle(plan, tasks);
+        self.put_table(plan.order, out);
+        span
+    }
+}
+
+// A plan in list order scheduled: the makespan, and the table's bytes, by task, at the front of a lent output.
+pub fn schedule(plan: &ByPlace<'_>, out: &mut [u8]) -> u32
+    requires { 20 * length plan.now.costs.now ≤ length out.old }
+    ensures span { result ≡ makespan_of (winner (plan_in plan.now)) }
+    ensures table { out.new ≡ bytes (by_task plan.now.order.now (finished (winner (plan_in plan.now)))) (length plan.now.costs.now) ++ drop (20 * length plan.now.costs.now) out.old }
+{
+    let mut trial = Trial {
+        within: [0; 256],
+        choices: [0; 64],
+        cores: [0; 64],
+        core: [0; 128],
+        words: [0; 128],
+        lengths: [0; 128],
+        start: [0; 128],
+        end: [0; 128],
+    };
+    trial.choose_all(plan);
+    trial.finish(plan, out)
+}
