@@ -8,7 +8,7 @@ ghost use Rattle.nizumokage.specs.Interface.{answer_of};
 
 use model::{Refusal, Time};
 
-// `struct nz_answer`.
+// `struct nz_answer`: numbers, as C takes them.
 #[repr(C)]
 #[derive(Clone, Copy)]
 pub struct Answer {

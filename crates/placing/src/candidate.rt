@@ -5,7 +5,8 @@ use contention::EdgeColumns;
 use model::Bus;
 
 // A candidate: of each place its execute time and its choice, 2 * core + 1 if it is exclusive, else 2 * core; the edges
-// between places, and the chains of the edges to each place.
+// between places, and the chains of the edges to each place. A choice is one number, as the rule has it (`core_in`, `exclusive`),
+// and a link is one more than an edge, 0 for none: an Option would take twice the memory.
 #[derive(Clone, Copy)]
 pub struct Candidate<'a> {
     pub bus: Bus,

@@ -311,7 +311,8 @@ pub struct Columns {
     pub amounts: [u16; 256],
 }
 
-// What reading a plan comes to: the first refusal, if there is one, and the plan; of a refused one, what was read before.
+// What reading a plan comes to: the first refusal, if there is one, and the plan; of a refused one, what was read before. A check
+// beside the columns and no Result of them, since `read_plan` promises these of a refused plan too (`plan_read`).
 #[derive(Clone, Copy)]
 pub struct PlanRead {
     pub check: Result<(), Refusal>,

@@ -138,17 +138,6 @@ module _ (j : Judged) (r : Ruled j) where
         words = λ x l. refl;
       }
 
-  pub columns_sized : Sized (phase_cores plan table) (phase_starts plan table) (phase_ends plan table) (phase_loads plan table) (length (phase_cores plan table))
-  columns_sized =
-      rw (list_length (λ x. table.core (x / 2)) (2 * tasks plan))
-      (record {
-        few = omega (arith, r.valid.ranges.few_tasks);
-        cores = omega (arith, list_length (λ x. table.core (x / 2)) (2 * tasks plan));
-        starts = omega (arith, list_length (of_phase table.R table.W) (2 * tasks plan));
-        ends = omega (arith, list_length (of_phase table.E table.F) (2 * tasks plan));
-        loads = omega (arith, phase_words_length plan table.core);
-      })
-
   module _ (served : ℕ) (words : List ℕ) where
     abbrev given : Use
     given = record { served = served; actual = at words }
