@@ -25,8 +25,8 @@ mod trial;
 fn place_of(order: &[u8], task: usize) -> usize
     ensures { result ≡ place_of order.now task }
 {
-    for a in 0..order.len() {
-        if usize::from(order[a]) == task {
+    for (a, other) in order.iter().enumerate() {
+        if usize::from(*other) == task {
             return a;
         }
     }
