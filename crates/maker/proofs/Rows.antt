@@ -3,7 +3,7 @@ use mathlib.Core.Path.{◌≡◌, sym, ap, ◌∙◌}
 use mathlib.Core.List.{List, ◌++◌}
 use Prim.Native.Nat.{ℕ, ◌*◌, ◌<◌}
 use native.Mathlib.Omega.{arith}
-use lib.ListN.{length, take, drop}
+use lib.ListN.{length, take}
 use lib.Seq.{take_at}
 use Rattle.model.specs.Graph.{place_of}
 use Rattle.model.specs.Table.{Table, of_numbers, numbers_at, numbers, bytes}
@@ -30,16 +30,13 @@ module _ (t : Table) (n : ℕ) (all rest : List ℕ) (e : all ≡ numbers t n ++
 -- ---- the columns that a settled candidate leaves are its table
 pub finished_bytes :
     (n : ℕ) (order cores start end : List ℕ) (t : Table) → Ordered n order → Placed n t cores start end
-    → (out : List ℕ) → bytes (by_task order (rows_by cores start end)) (length order) ++ drop (20 * length order) out ≡ bytes (by_task order t) n ++ drop (20 * n) out
-finished_bytes n order cores start end t o p out =
-    let place : (i : ℕ) → i < n → place_of order i < n = o.placed in
-    rw o.all
-    (ap (λ (l : List ℕ). l ++ drop (20 * n) out)
-    (bytes_same n (by_task order (rows_by cores start end)) (by_task order t)
+    → bytes (by_task order (rows_by cores start end)) n ≡ bytes (by_task order t) n
+finished_bytes n order cores start end t o p =
+    bytes_same n (by_task order (rows_by cores start end)) (by_task order t)
     (record {
-      core = λ i h. p.core (place_of order i) (place i h);
-      R = λ i h. p.R (place_of order i) (place i h);
-      E = λ i h. p.E (place_of order i) (place i h);
-      W = λ i h. p.W (place_of order i) (place i h);
-      F = λ i h. p.F (place_of order i) (place i h);
-    })))
+      core = λ i h. p.core (place_of order i) (o.placed i h);
+      R = λ i h. p.R (place_of order i) (o.placed i h);
+      E = λ i h. p.E (place_of order i) (o.placed i h);
+      W = λ i h. p.W (place_of order i) (o.placed i h);
+      F = λ i h. p.F (place_of order i) (o.placed i h);
+    })

@@ -8,7 +8,7 @@ ghost use Rattle.model.specs.Graph.{place_of};
 ghost use Rattle.model.specs.ListRule.{made_bytes, made_makespan};
 ghost use Rattle.model.specs.Answers.{made_of, made_output};
 ghost use Rattle.maker.specs.Choosing.{Planned};
-ghost use Rattle.maker.specs.Renumbering.{costs_by, places_by, masked_at, masked_by, linked_by};
+ghost use Rattle.maker.specs.Renumbering.{costs_by, places_by, linked_by};
 ghost use Rattle.maker.specs.Views.{plan_of_columns};
 
 use crate::by_place::ByPlace;
@@ -25,8 +25,8 @@ mod trial;
 fn place_of(order: &[u8], task: usize) -> usize
     ensures { result ≡ place_of order.now task }
 {
-    for a in 0..order.len() {
-        if usize::from(order[a]) == task {
+    for (a, other) in order.iter().enumerate() {
+        if usize::from(*other) == task {
             return a;
         }
     }
@@ -55,30 +55,6 @@ fn fill_places(order: &[u8], ends: &[u8], column: &mut [u8])
 {
     for e in 0..ends.len() {
         column[e] = place_of(order, usize::from(ends[e])) as u8;
-    }
-}
-
-// The words of edge e if it stands between the first k places, else 0.
-fn masked(edges: EdgeColumns<'_>, k: usize, e: usize) -> u16
-    requires source_in { e < length edges.sources.now }
-    requires target_in { e < length edges.targets.now }
-    requires amount_in { e < length edges.amounts.now }
-    ensures { result ≡ masked_at edges.entry.sources.now edges.entry.targets.now edges.entry.amounts.now k e }
-{
-    let within = usize::from(edges.sources[e]) < k && usize::from(edges.targets[e]) < k;
-    if within { edges.amounts[e] } else { 0 }
-}
-
-// The words of the edges between the first k places.
-#[tactic(auto, using(contention::proofs::Columns::filling))]
-fn mask(edges: EdgeColumns<'_>, k: usize, column: &mut [u16])
-    requires targets_all { length edges.targets.now ≡ length edges.sources.now }
-    requires amounts_all { length edges.amounts.now ≡ length edges.sources.now }
-    requires room { length edges.sources.now ≤ length column.old }
-    ensures { column.new ≡ masked_by edges.entry.sources.now edges.entry.targets.now edges.entry.amounts.now k ++ drop (length edges.entry.sources.now) column.old }
-{
-    for e in 0..edges.sources.len() {
-        column[e] = masked(edges, k, e);
     }
 }
 
@@ -136,6 +112,9 @@ fn make_table(columns: &Columns, out: &mut [u8]) -> u32
 }
 
 // The table of a plan by the list rule: its bytes at the front of a lent output, and the makespan.
+// Stack: the arrays of `make` and of the functions that it calls are 10,596 bytes together. The plan's columns 1,216, which the
+// compiler fills where they stay; the plan by place 1,408, of which the chains of edges are 640; a candidate at work 3,584, and
+// one placing of it 1,060 and one growth 2,048; the table's numbers 1,280.
 #[tactic(auto, unfolding(model::specs::Answers::made_of, model::specs::Answers::made_output, model::specs::Answers::making, model::specs::Answers::room))]
 pub fn make(plan: &[u8], out: &mut [u8]) -> Result<Time, Refusal>
     ensures answer { result ≡ made_of plan.now out.old }

@@ -1,15 +1,13 @@
 // The candidates of a plan in list order, tried place by place.
 ghost use Rattle.std.specs.Prelude.{◌≡◌, ◌++◌, ℕ, ◌+◌, ◌*◌, ◌≤◌, ◌<◌, length, take, drop};
 ghost use Rattle.model.specs.Below.{at};
-ghost use Rattle.model.specs.Graph.{place_of};
 ghost use Rattle.model.specs.Table.{numbers_at, numbers as numbers_of, bytes};
 ghost use Rattle.model.specs.ListRule.{candidate, finished, makespan_of, chosen, winner};
 ghost use Rattle.placing.specs.Candidates.{FewCores};
 ghost use Rattle.maker.specs.Choosing.{span_with, by_task, Placed};
-ghost use Rattle.maker.specs.Renumbering.{rows_by};
-ghost use Rattle.maker.specs.Views.{plan_in, Within};
+ghost use Rattle.maker.specs.Views.{plan_in, Within, table_by};
 
-use crate::{ByPlace, mask, place_of};
+use crate::{ByPlace, place_of};
 use contention::EdgeColumns;
 use placing::Candidate;
 
@@ -99,18 +97,18 @@ impl Trial {
         ensures { take (length plan.now.costs.now) self.new.choices ≡ chosen (plan_in plan.now) (length plan.now.costs.now) }
     {
         for k in 0..plan.costs.len() {
-            mask(plan.edges, k + 1, &mut self.within);
+            plan.mask(k + 1, &mut self.within);
             self.choose(plan, k);
         }
     }
 
     // The numbers of task i.
     #[tactic(auto, unfolding(model::specs::Table::numbers_at))]
-    fn row(&self, order: &[u8], i: usize) -> [u32; 5]
-        requires { place_of order.now i < 64 }
-        ensures { result ≡ numbers_at (by_task order.now (rows_by self.now.cores self.now.start self.now.end)) i }
+    fn row(&self, plan: &ByPlace<'_>, i: usize) -> [u32; 5]
+        requires { i < length plan.now.costs.now }
+        ensures { result ≡ numbers_at (table_by self.now plan.now) i }
     {
-        let a = place_of(order, i);
+        let a = place_of(plan.order, i);
         let read = 2 * a;
         let write = read + 1;
         [
@@ -124,28 +122,24 @@ impl Trial {
 
     // The numbers of all tasks.
     #[tactic(auto, using(table::proofs::Rows::number_blocks, table::proofs::Rows::numbers_long, model::proofs::Stores::part_stored))]
-    fn fill_numbers(&self, order: &[u8], numbers: &mut [u32])
-        requires few { length order.now ≤ 64 }
-        requires placed { (i : ℕ) → i < length order.now → place_of order.now i < length order.now }
-        requires room { 5 * length order.now ≤ length numbers.old }
-        ensures { numbers.new ≡ numbers_of (by_task order.now (rows_by self.now.cores self.now.start self.now.end)) (length order.now) ++ drop (5 * length order.now) numbers.old }
+    fn fill_numbers(&self, plan: &ByPlace<'_>, numbers: &mut [u32])
+        requires { 5 * length plan.now.costs.now ≤ length numbers.old }
+        ensures { numbers.new ≡ numbers_of (table_by self.now plan.now) (length plan.now.costs.now) ++ drop (5 * length plan.now.costs.now) numbers.old }
     {
-        for i in 0..order.len() {
-            numbers[5 * i..5 * i + 5].copy_from_slice(&self.row(order, i));
+        for i in 0..plan.costs.len() {
+            numbers[5 * i..5 * i + 5].copy_from_slice(&self.row(plan, i));
         }
     }
 
     // The bytes of the table, at the front of a lent output.
-    fn put_table(&self, order: &[u8], out: &mut [u8])
-        requires few { length order.now ≤ 64 }
-        requires placed { (i : ℕ) → i < length order.now → place_of order.now i < length order.now }
-        requires few_cores { (a : ℕ) → a < length order.now → at self.now.cores a < 256 }
-        requires room { 20 * length order.now ≤ length out.old }
-        ensures { out.new ≡ bytes (by_task order.now (rows_by self.now.cores self.now.start self.now.end)) (length order.now) ++ drop (20 * length order.now) out.old }
+    fn put_table(&self, plan: &ByPlace<'_>, out: &mut [u8])
+        requires few_cores { (a : ℕ) → a < length plan.now.costs.now → at self.now.cores a < 256 }
+        requires room { 20 * length plan.now.costs.now ≤ length out.old }
+        ensures { out.new ≡ bytes (table_by self.now plan.now) (length plan.now.costs.now) ++ drop (20 * length plan.now.costs.now) out.old }
     {
         let mut numbers = [0u32; 320];
-        let tasks = order.len();
-        self.fill_numbers(order, &mut numbers);
+        let tasks = plan.costs.len();
+        self.fill_numbers(plan, &mut numbers);
         table::put_rows(&numbers[..5 * tasks], tasks, out);
     }
 
@@ -157,9 +151,9 @@ impl Trial {
         ensures table { out.new ≡ bytes (by_task plan.now.order.now (finished (winner (plan_in plan.now)))) (length plan.now.costs.now) ++ drop (20 * length plan.now.costs.now) out.old }
     {
         let tasks = plan.costs.len();
-        mask(plan.edges, tasks, &mut self.within);
+        plan.mask(tasks, &mut self.within);
         let span = self.settle(plan, tasks);
-        self.put_table(plan.order, out);
+        self.put_table(plan, out);
         span
     }
 }

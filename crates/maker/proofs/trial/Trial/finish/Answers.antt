@@ -1,6 +1,8 @@
 -- `maker::Trial::finish` meets its contract. The winner settled, then written.
+use mathlib.Core.List.{List, ◌++◌}
+use Prim.Native.Nat.{ℕ, ◌*◌}
+use lib.ListN.{length, drop}
 use mathlib.Core.Path.{◌∙◌, ap}
-use native.Mathlib.Omega.{arith}
 use Rattle.model.specs.ListRule.{makespan_of}
 use Rattle.maker.specs.Views.{plan_in}
 use Rattle.maker.proofs.Choosing.{chosen_few}
@@ -16,7 +18,7 @@ settle-span-requires-clause-few_cores c =
 pub put_table-requires-clause-few_cores : goal.put_table-requires-clause-few_cores
 put_table-requires-clause-few_cores c =
     let p = c.args.plan.now in
-    λ a h. cores_small (plan_in p) p.links.now _ _ _ _ _ p.listed c.requires.chosen c.settle-span.ensures.placed a (omega (arith, p.ordered.all))
+    cores_small (plan_in p) p.links.now _ _ _ _ _ p.listed c.requires.chosen c.settle-span.ensures.placed
 
 pub returns-clause-span : goal.returns-clause-span
 returns-clause-span c = c.settle-span.ensures.span ∙ ap makespan_of (winner_is (plan_in c.args.plan.now) _ c.requires.chosen)
@@ -24,4 +26,6 @@ returns-clause-span c = c.settle-span.ensures.span ∙ ap makespan_of (winner_is
 pub returns-clause-table : goal.returns-clause-table
 returns-clause-table c =
     let p = c.args.plan.now in
-    c.put_table.ensures ∙ finished_bytes _ _ _ _ _ _ p.ordered (rw (winner_is (plan_in p) _ c.requires.chosen) at c.settle-span.ensures.placed) c.args.out.now
+    let placed = rw (winner_is (plan_in p) _ c.requires.chosen) at c.settle-span.ensures.placed in
+    c.put_table.ensures
+    ∙ ap (λ (l : List ℕ). l ++ drop (20 * length p.costs.now) c.args.out.now) (finished_bytes _ _ _ _ _ _ p.ordered placed)
