@@ -120,7 +120,8 @@ pub fn make(plan: &[u8], out: &mut [u8]) -> Result<Time, Refusal>
     ensures answer { result ≡ made_of plan.now out.old }
     ensures output { out.new ≡ made_output plan.now out.old }
 {
-    let columns = plan::read(plan)?;
+    let mut columns = Columns::new();
+    columns.read(plan)?;
     model::refuse_if(out.len() < 20 * columns.tasks, table::short_output())?;
     Ok(Time(make_table(&columns, out)))
 }

@@ -1,15 +1,18 @@
--- What `read` says of a plan that is whole, from what `read_plan` gives. Assumes nothing.
-use mathlib.Core.Path.{◌≡◌}
+-- What reading says of the columns of a plan that is whole. Assumes nothing.
+use mathlib.Core.Path.{◌≡◌, refl}
 use mathlib.Core.List.{List}
 use Prim.Native.Nat.{ℕ}
 use native.Mathlib.Omega.{arith}
-use Rattle.std.specs.Prelude.{Ok}
+use Rattle.std.specs.Prelude.{Ok, Err, MatchResult}
+use Rattle.model.specs.Refusals.{Check}
 use Rattle.model.specs.Plan.{reading_of}
+use Rattle.model.specs.Graph.{plan_of}
+use Rattle.plan.specs.declared.Columns.{Columns}
 use Rattle.plan.specs.declared.PlanRead.{PlanRead}
 use Rattle.plan.specs.Planned.{plan_read, Holds}
-use Rattle.plan.proofs.Whole.{plan_known}
+use Rattle.plan.proofs.Whole.{plan_known, plan_refused}
 
-pub holds : (bytes : List ℕ) (r : PlanRead) → r ≡ plan_read bytes → r.check ≡ Ok tt → Holds bytes r.columns (reading_of bytes).plan
+holds : (bytes : List ℕ) (r : PlanRead) → r ≡ plan_read bytes → r.check ≡ Ok tt → Holds bytes r.columns (reading_of bytes).plan
 holds bytes r e g =
     let k = plan_known bytes r e g in
     record {
@@ -27,3 +30,8 @@ holds bytes r e g =
       targets = k.targets;
       amounts = k.amounts;
     }
+
+pub held : (bytes : List ℕ) (check : Check) (c : Columns) → record { check = check; columns = c } ≡ plan_read bytes
+    → MatchResult check (λ _. Holds bytes c (reading_of bytes).plan) (λ r. plan_of bytes ≡ Err r)
+held bytes (Ok tt) c e = holds bytes _ e refl
+held bytes (Err r) c e = plan_refused bytes _ e refl

@@ -3,7 +3,7 @@
 -- Assumes nothing.
 use Rattle.std.specs.Prelude.{◌≡◌, ℕ, ◌+◌, ◌<◌, ◌≤◌, true, false, List, length, take, replicate, set, Ok, Err}
 use Rattle.std.proofs.lemmas.List.Edits.{sets}
-use Rattle.model.specs.Refusals.{refusal, refuse_if, or_else, passing, Outcome, Check}
+use Rattle.model.specs.Refusals.{refusal, refuse_if, or_else, Check}
 use Rattle.model.specs.Plan.{Plan, Valid, tasks, edges, key_of, reading_of}
 use Rattle.model.specs.Graph.{left_over, list_order, plan_of}
 use Rattle.model.specs.declared.Fault.TheVariants.{Cyclic}
@@ -105,7 +105,3 @@ pub record Holds (bytes : List ℕ) (c : Columns) (p : Plan) : Type 0 where
   pub sources : take c.edges c.sources ≡ p.sources
   pub targets : take c.edges c.targets ≡ p.targets
   pub amounts : take c.edges c.amounts ≡ p.amounts
-
--- the columns of bytes that are a plan, or the first refusal
-abbrev pub columns_read : List ℕ → Outcome Columns
-columns_read bytes = passing (plan_read bytes).check (plan_read bytes).columns

@@ -7,7 +7,7 @@ ghost use Rattle.model.specs.Field.{two, plan_body, body_of, step_in, plan_step,
 ghost use Rattle.model.specs.Plan.{no_plan, key_of, settings_good, in_order, header_in, task_in, edge_in, tagged, field_by, field_of, reading_of};
 ghost use Rattle.model.specs.Refusals.{refusal, refuse_if};
 ghost use Rattle.model.specs.Graph.{left_over, list_order, plan_of};
-ghost use Rattle.plan.specs.Planned.{filled, columns_of, columns_read, plan_read, after, kept, Room, Holds, graph_in, EdgesIn};
+ghost use Rattle.plan.specs.Planned.{filled, columns_of, plan_read, after, kept, Room, Holds, graph_in, EdgesIn};
 
 mod graph;
 
@@ -322,7 +322,7 @@ pub struct PlanRead {
 impl Columns {
     // Of no plan.
     #[tactic(auto, unfolding(crate::specs::Planned::columns_of, crate::specs::Planned::filled))]
-    fn new() -> Self
+    pub fn new() -> Self
         ensures { result ≡ columns_of no_plan (replicate 64 0) }
     {
         Columns {
@@ -404,10 +404,11 @@ impl Columns {
         refuse_if(taken < self.tasks, cyclic)
     }
 
-    // The plan that bytes are.
-    fn read(&mut self, plan: &[u8]) -> Result<(), Refusal>
+    // The plan that bytes are, into the columns of no plan; of a refused one, what was read before.
+    pub fn read(&mut self, plan: &[u8]) -> Result<(), Refusal>
         requires { self.old ≡ columns_of no_plan (replicate 64 0) }
-        ensures { record { check = result; columns = self.new } ≡ plan_read plan.now }
+        ensures value { record { check = result; columns = self.new } ≡ plan_read plan.now }
+        ensures planned { MatchResult result (λ _. Holds plan.now self.new (reading_of plan.now).plan) (λ refusal. plan_of plan.now ≡ Err refusal) }
     {
         self.parse(plan)?;
         self.list(plan.len())
@@ -421,15 +422,4 @@ pub fn read_plan(plan: &[u8]) -> PlanRead
     let mut columns = Columns::new();
     let check = columns.read(plan);
     PlanRead { check, columns }
-}
-
-// The columns of bytes that are a plan, or the first refusal.
-#[tactic(auto, using(crate::proofs::Whole::plan_refused))]
-pub fn read(plan: &[u8]) -> Result<Columns, Refusal>
-    ensures value { result ≡ columns_read plan.now }
-    ensures planned { MatchResult result (λ columns. Holds plan.now columns (reading_of plan.now).plan) (λ refusal. plan_of plan.now ≡ Err refusal) }
-{
-    let read = read_plan(plan);
-    read.check?;
-    Ok(read.columns)
 }

@@ -11,6 +11,7 @@ ghost use Rattle.model.specs.Table.{of_numbers, of_bytes, numbers_at, numbers, f
 ghost use Rattle.table.specs.Row.{row_of};
 
 use model::{Fault, Refusal, Side};
+use plan::Columns;
 
 // ---- a table in working memory: these five know where a number stands. A plain slice, as C lends it, so each says of its length
 // what it needs; five names and not one with an offset as its parameter, since the offsets are known here alone.
@@ -290,7 +291,8 @@ pub fn read(plan: &[u8], table: &[u8], out: &mut [u32]) -> Result<(), Refusal>
     ensures answer { result ≡ decoded_of plan.now table.now out.old }
     ensures output { out.new ≡ decoded_output plan.now table.now out.old }
 {
-    let columns = plan::read(plan)?;
+    let mut columns = Columns::new();
+    columns.read(plan)?;
     let tasks = columns.tasks;
     table_check(columns.bus.cores, tasks, table)?;
     model::refuse_if(out.len() < 5 * tasks, short_output())?;
@@ -304,7 +306,8 @@ pub fn write(plan: &[u8], table: &[u32], out: &mut [u8]) -> Result<(), Refusal>
     ensures answer { result ≡ written_of plan.now table.now out.old }
     ensures output { out.new ≡ written_output plan.now table.now out.old }
 {
-    let columns = plan::read(plan)?;
+    let mut columns = Columns::new();
+    columns.read(plan)?;
     let tasks = columns.tasks;
     numbers_check(columns.bus.cores, tasks, table)?;
     model::refuse_if(out.len() < 20 * tasks, short_output())?;

@@ -14,6 +14,7 @@ ghost use Rattle.verifier.specs.Views.{plan_in, table_in};
 
 use contention::{EdgeColumns, PhaseColumns};
 use model::{Bus, Fault, Refusal, Time};
+use plan::Columns;
 use planned::PlannedTable;
 
 mod planned;
@@ -106,7 +107,8 @@ pub fn judge(
     ensures few { IfOk result (λ obeyed. obeyed.tasks ≤ 64) }
     ensures phases { (core.new ≡ column_of phase_cores plan.now table.now core.old) × (start.new ≡ column_of phase_starts plan.now table.now start.old) × (end.new ≡ column_of phase_ends plan.now table.now end.old) × (words.new ≡ column_of phase_loads plan.now table.now words.old) }
 {
-    let columns = plan::read(plan)?;
+    let mut columns = Columns::new();
+    columns.read(plan)?;
     let tasks = columns.tasks;
     let edges = columns.edges;
     table::table_check(columns.bus.cores, tasks, table)?;

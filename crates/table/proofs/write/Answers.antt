@@ -7,7 +7,7 @@ use Rattle.table.proofs.write.Goals as goal
 
 pub put_rows-requires : goal.put_rows-requires
 put_rows-requires c =
-    let h = c.in_ok-columns.ensures.planned in
+    let h = c.in_ok-read.ensures.planned in
     let g = sym c.in_ok-numbers_check.ensures in
     let cores = ap (λ (b : Bus). b.cores) h.bus in (
       omega (arith, h.few_tasks),
