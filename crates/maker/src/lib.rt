@@ -21,7 +21,7 @@ mod trial;
 
 // ---- the plan by list place
 // The place of a task in the list order; its length where there is none.
-#[tactic(auto, using(model::proofs::Below::first_here, model::proofs::Below::first_none), unfolding(model::specs::Graph::place_of))]
+#[tactic(auto, using(model::proofs::Below::first_none), unfolding(model::specs::Graph::place_of))]
 fn place_of(order: &[u8], task: usize) -> usize
     ensures { result ≡ place_of order.now task }
 {

@@ -13,15 +13,15 @@ use placing::Candidate;
 
 // A candidate at work: the words of the edges within its places, its choices, and the columns that it is settled in.
 #[derive(Drop)]
-pub struct Trial {
-    pub within: [u16; 256],
-    pub choices: [u32; 64],
-    pub cores: [u32; 64],
-    pub core: [u32; 128],
-    pub words: [u32; 128],
-    pub lengths: [u32; 128],
-    pub start: [u32; 128],
-    pub end: [u32; 128],
+struct Trial {
+    within: [u16; 256],
+    choices: [u32; 64],
+    cores: [u32; 64],
+    core: [u32; 128],
+    words: [u32; 128],
+    lengths: [u32; 128],
+    start: [u32; 128],
+    end: [u32; 128],
 }
 
 impl Trial {
