@@ -1,31 +1,43 @@
 -- The table by task, from the columns by place. Assumes nothing.
 use mathlib.Core.Path.{◌≡◌, sym, ap, ◌∙◌}
 use mathlib.Core.List.{List, ◌++◌}
-use Prim.Native.Nat.{ℕ, ◌*◌, ◌<◌}
+use Prim.Native.Nat.{ℕ, ◌+◌, ◌*◌, ◌≤◌, ◌<◌}
 use native.Mathlib.Omega.{arith}
 use lib.ListN.{length, take}
 use lib.Seq.{take_at}
+use Rattle.std.proofs.lemmas.List.{take_all}
 use Rattle.model.specs.Graph.{place_of}
-use Rattle.model.specs.Table.{Table, of_numbers, numbers_at, numbers, bytes}
-use Rattle.model.proofs.RoundTrip.{blocks_length, of_numbers_lem}
+use Rattle.model.specs.Below.{join_below, append_below, stored}
+use Rattle.model.specs.Table.{Table, of_numbers, numbers_at, bytes_at, bytes}
 use Rattle.model.proofs.ReadBack.{bytes_same}
-use Rattle.table.proofs.Rows.{numbers_long}
+use Rattle.table.proofs.Rows.{numbers_long, field_long, bytes_more}
+use Rattle.model.proofs.Stores.{part_stored}
+use borrow.Rule.Slice.PartMut.{put_mid}
 use Rattle.maker.specs.Renumbering.{rows_by}
 use Rattle.maker.specs.Choosing.{by_task, Ordered, Placed}
 
--- ---- all numbers in working memory: the table's
-module _ (t : Table) (n : ℕ) (all rest : List ℕ) (e : all ≡ numbers t n ++ rest) where
-  taken : take (5 * n) all ≡ numbers t n
-  taken = rw e (take_at (numbers t n) rest (5 * n) (blocks_length (numbers_at t) 5 (numbers_long t) n))
+-- ---- the numbers of one task, and its bytes
+module _ (t : Table) (i : ℕ) (row : List ℕ) (e : row ≡ numbers_at t i) where
+  pub row_long : length row ≡ 5
+  row_long = ap length e ∙ numbers_long t i
 
-  pub table_long : length (take (5 * n) all) ≡ 5 * n
-  table_long = ap length taken ∙ blocks_length (numbers_at t) 5 (numbers_long t) n
+  pub row_core : t.core i < 256 → (j : ℕ) → j < 1 → (of_numbers row).core j < 256
+  unfolding numbers_at
+  row_core h j l =
+      let z : j ≡ 0 = omega arith in
+      rw (z, e) h
 
-  pub table_cores : ((i : ℕ) → i < n → t.core i < 256) → (i : ℕ) → i < n → (of_numbers (take (5 * n) all)).core i < 256
-  table_cores h i l = rw taken (omega (arith, (of_numbers_lem n t).core i l, h i l))
+  row_bytes : bytes (of_numbers row) 1 ≡ bytes_at t i
+  unfolding numbers_at join_below
+  row_bytes = rw e
 
-  pub table_bytes : bytes (of_numbers (take (5 * n) all)) n ≡ bytes t n
-  table_bytes = rw taken (sym (bytes_same n t (of_numbers (numbers t n)) (of_numbers_lem n t)))
+  -- written behind those of the tasks before it
+  pub rows_more :
+      (first out rest part : List ℕ) (k : ℕ) → out ≡ stored first 0 (append_below (bytes_at t) i) → part ≡ bytes (of_numbers row) 1 ++ rest
+      → length part ≤ 20 → k ≡ 20 → 20 * i + 20 ≤ length out → put_mid (20 * i) k out part ≡ stored first 0 (append_below (bytes_at t) (i + 1))
+  rows_more first out rest part k s e long ek fits =
+      let same : part ≡ bytes_at t i = sym (take_all 20 part long) ∙ ap (take 20) (rw row_bytes at e) ∙ take_at (bytes_at t i) rest 20 (field_long t i) in
+      bytes_more t first out _ i s (part_stored out part (bytes_at t i) (20 * i) k same (field_long t i ∙ sym ek) (omega arith))
 
 -- ---- the columns that a settled candidate leaves are its table
 pub finished_bytes :

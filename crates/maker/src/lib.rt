@@ -21,7 +21,7 @@ mod trial;
 
 // ---- the plan by list place
 // The place of a task in the list order; its length where there is none.
-#[tactic(auto, using(model::proofs::Below::first_here, model::proofs::Below::first_none), unfolding(model::specs::Graph::place_of))]
+#[tactic(auto, using(model::proofs::Below::first_none), unfolding(model::specs::Graph::place_of))]
 fn place_of(order: &[u8], task: usize) -> usize
     ensures { result ≡ place_of order.now task }
 {
@@ -112,9 +112,9 @@ fn make_table(columns: &Columns, out: &mut [u8]) -> u32
 }
 
 // The table of a plan by the list rule: its bytes at the front of a lent output, and the makespan.
-// Stack: the arrays of `make` and of the functions that it calls are 10,596 bytes together. The plan's columns 1,216, which the
-// compiler fills where they stay; the plan by place 1,408, of which the chains of edges are 640; a candidate at work 3,584, and
-// one placing of it 1,060 and one growth 2,048; the table's numbers 1,280.
+// Stack: the arrays that stand while candidates are tried are 9,316 bytes together, though a growth and a placing take turns. The
+// plan's columns 1,216; the plan by place 1,408, of which the chains of edges are 640; a candidate at work 3,584, one growth of it
+// 2,048 and one placing 1,060.
 #[tactic(auto, unfolding(model::specs::Answers::made_of, model::specs::Answers::made_output, model::specs::Answers::making, model::specs::Answers::room))]
 pub fn make(plan: &[u8], out: &mut [u8]) -> Result<Time, Refusal>
     ensures answer { result ≡ made_of plan.now out.old }

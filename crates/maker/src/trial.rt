@@ -1,7 +1,7 @@
 // The candidates of a plan in list order, tried place by place.
 ghost use Rattle.std.specs.Prelude.{◌≡◌, ◌++◌, ℕ, ◌+◌, ◌*◌, ◌≤◌, ◌<◌, length, take, drop};
 ghost use Rattle.model.specs.Below.{at};
-ghost use Rattle.model.specs.Table.{numbers_at, numbers as numbers_of, bytes};
+ghost use Rattle.model.specs.Table.{numbers_at, bytes};
 ghost use Rattle.model.specs.ListRule.{candidate, finished, makespan_of, chosen, winner};
 ghost use Rattle.placing.specs.Candidates.{FewCores};
 ghost use Rattle.maker.specs.Choosing.{span_with, by_task, Placed};
@@ -13,15 +13,15 @@ use placing::Candidate;
 
 // A candidate at work: the words of the edges within its places, its choices, and the columns that it is settled in.
 #[derive(Drop)]
-pub struct Trial {
-    pub within: [u16; 256],
-    pub choices: [u32; 64],
-    pub cores: [u32; 64],
-    pub core: [u32; 128],
-    pub words: [u32; 128],
-    pub lengths: [u32; 128],
-    pub start: [u32; 128],
-    pub end: [u32; 128],
+struct Trial {
+    within: [u16; 256],
+    choices: [u32; 64],
+    cores: [u32; 64],
+    core: [u32; 128],
+    words: [u32; 128],
+    lengths: [u32; 128],
+    start: [u32; 128],
+    end: [u32; 128],
 }
 
 impl Trial {
@@ -120,27 +120,17 @@ impl Trial {
         ]
     }
 
-    // The numbers of all tasks.
-    #[tactic(auto, using(table::proofs::Rows::number_blocks, table::proofs::Rows::numbers_long, model::proofs::Stores::part_stored))]
-    fn fill_numbers(&self, plan: &ByPlace<'_>, numbers: &mut [u32])
-        requires { 5 * length plan.now.costs.now ≤ length numbers.old }
-        ensures { numbers.new ≡ numbers_of (table_by self.now plan.now) (length plan.now.costs.now) ++ drop (5 * length plan.now.costs.now) numbers.old }
-    {
-        for i in 0..plan.costs.len() {
-            numbers[5 * i..5 * i + 5].copy_from_slice(&self.row(plan, i));
-        }
-    }
-
     // The bytes of the table, at the front of a lent output.
+    #[tactic(auto, using(table::proofs::Rows::byte_blocks))]
     fn put_table(&self, plan: &ByPlace<'_>, out: &mut [u8])
         requires few_cores { (a : ℕ) → a < length plan.now.costs.now → at self.now.cores a < 256 }
         requires room { 20 * length plan.now.costs.now ≤ length out.old }
         ensures { out.new ≡ bytes (table_by self.now plan.now) (length plan.now.costs.now) ++ drop (20 * length plan.now.costs.now) out.old }
     {
-        let mut numbers = [0u32; 320];
-        let tasks = plan.costs.len();
-        self.fill_numbers(plan, &mut numbers);
-        table::put_rows(&numbers[..5 * tasks], tasks, out);
+        for i in 0..plan.costs.len() {
+            let row = self.row(plan, i);
+            table::put_rows(&row, 1, &mut out[20 * i..20 * i + 20]);
+        }
     }
 
     // The winner settled once more: its makespan, and the bytes of its table, by task, at the front of a lent output.

@@ -1,23 +1,18 @@
--- `maker::Trial::put_table` meets its contract. The numbers in working memory, then their bytes.
-use mathlib.Core.Path.{◌∙◌, ap}
-use mathlib.Core.List.{List, ◌++◌}
-use Prim.Native.Nat.{ℕ, ◌*◌, ◌<◌}
-use lib.ListN.{length, drop}
+-- `maker::Trial::put_table` meets its contract. One row more each turn.
 use native.Mathlib.Omega.{arith}
-use Rattle.maker.proofs.Rows.{table_long, table_cores, table_bytes}
+use Rattle.std.proofs.lemmas.Grind.{common_steps}
+use Rattle.maker.proofs.Rows.{row_long, row_core, rows_more}
 use Rattle.maker.proofs.trial.Trial.put_table.Goals as goal
 
 pub put_rows-requires : goal.put_rows-requires
-put_rows-requires c = (
-  omega (arith, c.args.plan.now.listed.few_tasks),
-  omega (arith, table_long _ _ _ _ c.fill_numbers.ensures),
-  omega (arith, c.requires.room),
-  λ i h.
-      let l : i < length c.args.plan.now.costs.now = omega arith in
-      table_cores _ _ _ _ c.fill_numbers.ensures (λ i h. c.requires.few_cores _ (c.args.plan.now.ordered.placed i h)) i l,
-)
+put_rows-requires c =
+    let p = c.args.plan.now in (
+      omega arith,
+      omega (arith, row_long _ _ _ c.row-row.ensures),
+      grind (arith, common_steps),
+      λ j h. row_core _ _ _ c.row-row.ensures (c.requires.few_cores _ (p.ordered.placed _ c.loop-i-test.true)) j (omega arith),
+    )
 
-pub returns : goal.returns
-returns c =
-    c.put_rows.ensures
-    ∙ ap (λ (l : List ℕ). l ++ drop (20 * length c.args.plan.now.costs.now) c.args.out.now) (table_bytes _ _ _ _ c.fill_numbers.ensures)
+pub loop-i-preserved : goal.loop-i-preserved
+loop-i-preserved c =
+    rows_more _ _ _ c.row-row.ensures c.args.out.now _ _ _ _ c.loop-i.invariant c.put_rows.ensures (grind (arith, common_steps)) (omega arith) (omega arith)
