@@ -363,6 +363,8 @@ judged()
 played()
 made()
 refusals()
+# the last case ends inside the length of its first block: all its blocks have no bytes
+cases.append((bytes([2, 0]), 'step none then 0'))
 with open(os.path.join(ROOT, 'stdin'), 'wb') as f:
     f.write(b''.join(data for data, _ in cases))
 with open(os.path.join(ROOT, 'stdout'), 'w') as f:

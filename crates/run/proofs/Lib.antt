@@ -1,3 +1,4 @@
+pub mod Checks
 pub mod Ways
 pub mod Entry
 pub mod Obeying

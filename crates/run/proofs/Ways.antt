@@ -37,7 +37,8 @@ use Rattle.guarantee.proofs.Verified.{read_in_range}
 use Rattle.verifier.specs.Judging.{obeys, judgement_by, judgement_of, column_of, phase_cores, phase_starts, phase_ends, phase_loads}
 use Rattle.verifier.specs.declared.Obeyed.{Obeyed}
 use Rattle.bus.specs.Playing.{use_of, Playable}
-use Rattle.run.specs.Checks.{over_at, words_by, run_by}
+use Rattle.run.proofs.Checks.{first_refusal}
+use Rattle.run.specs.Checks.{over_at, over_check, words_by, run_by}
 use Rattle.std.specs.Prelude.{Ok, Err}
 
 -- ---- what the judgement says of the bytes
@@ -188,8 +189,10 @@ module _ (p s : List ℕ) (served : ℕ) (words out : List ℕ) where
     check = or_else (served_check j served) (or_else (words_check j words) (room (4 * tasks j.plan) out))
 
     pub check_is : run_by (cores j.plan) served most words (length out) ≡ check
-    unfolding run_by words_by over_at served_check words_check declared room
-    check_is = let k : 2 * (2 * tasks j.plan) ≡ 4 * tasks j.plan = omega arith in rw (most_long, k)
+    unfolding run_by words_by over_check over_at served_check words_check declared room
+    check_is =
+        let k : 2 * (2 * tasks j.plan) ≡ 4 * tasks j.plan = omega arith in
+        rw (first_refusal (λ x. ltb (at most x) (at words x)) (refusal WordsWrong OfNeither) (length most), most_long, k)
 
     module _ (x : Check) (q : x ≡ run_by (cores j.plan) served most words (length out)) where
       pub unplayed : {r : Refusal} → x ≡ Err r → Answered (Err r) out

@@ -1,11 +1,10 @@
 // The bus run: a table that the verifier accepts, played with a core served last and actual word counts.
 #![tactic(auto)]
 
-ghost use Rattle.std.specs.Prelude.{◌≡◌, ◌≤◌, ◌<◌, length, MatchOption};
-ghost use Rattle.model.specs.Below.{first_below};
+ghost use Rattle.std.specs.Prelude.{◌≡◌, ◌≤◌, ◌<◌, length};
 ghost use Rattle.model.specs.Answers.{played_of, played_output};
 ghost use Rattle.model.specs.Refusals.{refuse_if};
-ghost use Rattle.run.specs.Checks.{over_at, words_by, run_by};
+ghost use Rattle.run.specs.Checks.{over_check, words_by, run_by};
 
 use contention::PhaseColumns;
 use model::{Fault, Refusal, Side};
@@ -17,18 +16,14 @@ fn refuse_if(wrong: bool, fault: Fault, place: usize) -> Result<(), Refusal>
     model::refuse_if(wrong, Refusal::new(fault, Side::OfNeither, place))
 }
 
-// The first phase with more words than are declared for it.
-#[tactic(auto, using(model::proofs::Below::first_none), unfolding(crate::specs::Checks::over_at))]
-fn first_over(most: &[u32], words: &[u32]) -> Option<usize>
-    requires { length most.now ≤ length words.now }
-    ensures { MatchOption result (first_below (over_at most.now words.now) (length most.now) ≡ length most.now) (λ x. (x ≡ first_below (over_at most.now words.now) (length most.now)) × (x < length most.now)) }
+// 17: more words for phase x than are declared for it.
+#[tactic(auto, unfolding(crate::specs::Checks::over_check, crate::specs::Checks::over_at))]
+fn over_check(most: &[u32], words: &[u32], x: usize) -> Result<(), Refusal>
+    requires declared { x < length most.now }
+    requires given { x < length words.now }
+    ensures { result ≡ over_check most.now words.now x }
 {
-    for x in 0..most.len() {
-        if most[x] < words[x] {
-            return Some(x);
-        }
-    }
-    None
+    refuse_if(most[x] < words[x], Fault::WordsWrong, x)
 }
 
 // 17: another length than the declared words have, or the first count above the declared.
@@ -37,10 +32,7 @@ fn words_check(most: &[u32], words: &[u32]) -> Result<(), Refusal>
     ensures { result ≡ words_by most.now words.now }
 {
     refuse_if(words.len() != most.len(), Fault::WordsWrong, words.len())?;
-    match first_over(most, words) {
-        Some(x) => refuse_if(true, Fault::WordsWrong, x),
-        None => Ok(()),
-    }
+    model::first_bad(most.len(), |x| over_check(most, words, x))
 }
 
 // 16, 17, 8.

@@ -159,24 +159,13 @@ fn row_check(cores: u32, s: &[u8], i: usize) -> Result<(), Refusal>
     }
 }
 
-#[tactic(auto, using(model::proofs::Refusals::in_order))]
-fn rows_good(cores: u32, tasks: usize, s: &[u8]) -> Result<(), Refusal>
-    requires { tasks ≤ 64 }
-    ensures { result ≡ first_bad (row_at cores s.now) tasks }
-{
-    for i in 0..tasks {
-        row_check(cores, s, i)?;
-    }
-    Ok(())
-}
-
 // All fields in order, then 9 for bytes left over.
 #[tactic(auto, unfolding(model::specs::Table::rows_check))]
 pub fn table_check(cores: u32, tasks: usize, s: &[u8]) -> Result<(), Refusal>
     requires { tasks ≤ 64 }
     ensures { result ≡ rows_check cores tasks s.now }
 {
-    rows_good(cores, tasks, s)?;
+    model::first_bad(tasks, |i| row_check(cores, s, i))?;
     model::refuse_if(20 * tasks < s.len(), refused(Fault::FieldCount, 20 * tasks))
 }
 
@@ -255,17 +244,6 @@ pub fn put_rows(table: &[u32], tasks: usize, out: &mut [u8])
 }
 
 // ---- the writer's checks: another list length, then task by task its values
-#[tactic(auto, using(model::proofs::Refusals::in_order))]
-fn givens_good(cores: u32, tasks: usize, table: &[u32]) -> Result<(), Refusal>
-    requires { (tasks ≤ 64) × (5 * tasks ≤ length table.now) }
-    ensures { result ≡ first_bad (values_at cores (of_numbers table.now)) tasks }
-{
-    for i in 0..tasks {
-        values_check(cores, 20 * i, given_row(table, i))?;
-    }
-    Ok(())
-}
-
 #[tactic(auto, unfolding(model::specs::Table::values_check))]
 fn numbers_check(cores: u32, tasks: usize, table: &[u32]) -> Result<(), Refusal>
     requires { tasks ≤ 64 }
@@ -275,7 +253,9 @@ fn numbers_check(cores: u32, tasks: usize, table: &[u32]) -> Result<(), Refusal>
         table.len() != 5 * tasks,
         refused(Fault::FieldCount, 20 * tasks),
     )?;
-    givens_good(cores, tasks, table)
+    model::first_bad(tasks, |i| {
+        values_check(cores, 20 * i, given_row(table, i))
+    })
 }
 
 // 8: a lent output that is too short.

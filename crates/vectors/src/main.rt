@@ -37,12 +37,13 @@ impl From<u8> for Kind {
     }
 }
 
-// A block's bytes, and what is behind it. A block that is cut ends with the input.
+// A block's bytes, and what is behind it. A block that is cut ends with the input; one whose length is cut has no bytes.
 fn block(s: &[u8]) -> (&[u8], &[u8])
     ensures { length result.1.now ≤ length s.now }
 {
     if s.len() < 2 {
-        return s.split_at(s.len());
+        let (_, end) = s.split_at(s.len());
+        return (end, end);
     }
     let size = usize::from(plan::two_at(s, 0));
     let rest = &s[2..];

@@ -29,17 +29,15 @@ fn window_at(phases: PhaseColumns<'_>, delays: &[u32], x: usize) -> Result<(), R
     planned::refuse_at(u64::from(phases.end[x]) < due, Fault::WindowShort, x / 2)
 }
 
-#[tactic(auto, using(model::proofs::Refusals::in_order))]
+// Of all phases, by their delays.
 fn each_window(phases: PhaseColumns<'_>, delays: &[u32]) -> Result<(), Refusal>
     requires { length phases.core.now ≤ length delays.now }
     ensures { result ≡ first_bad (lasts_at phases.entry.start.now phases.entry.end.now delays.now) (length phases.entry.core.now) }
 {
-    for x in 0..phases.core.len() {
-        window_at(phases, delays, x)?;
-    }
-    Ok(())
+    model::first_bad(phases.core.len(), |x| window_at(phases, delays, x))
 }
 
+// Of all phases, once the delays are known.
 fn windows(planned: &PlannedTable<'_>, phases: PhaseColumns<'_>) -> Result<(), Refusal>
     requires { Shown (as_phases phases) (plan_in planned.now) (table_in planned.now) }
     ensures { result ≡ first_bad (window_at planned.now.bus (phases_of (plan_in planned.now) (table_in planned.now))) (2 * length planned.now.costs.now) }
@@ -81,13 +79,14 @@ fn rules(
         end,
         words,
     };
-    planned.executes()?;
-    planned.follows()?;
-    planned.crosses()?;
+    let tasks = planned.costs.len();
+    model::first_bad(tasks, |i| planned.execute_at(i))?;
+    model::first_bad(planned.edges.sources.len(), |e| planned.edge_at(e))?;
+    model::first_bad(tasks, |i| planned.cross_from(i))?;
     windows(planned, phases)?;
     Ok(Obeyed {
         bus: planned.bus,
-        tasks: planned.costs.len(),
+        tasks,
         makespan: Time(planned.makespan()),
     })
 }

@@ -53,7 +53,7 @@ impl PlannedTable<'_> {
 
     // 12: task i's execute window lasts at least its execute time.
     #[tactic(auto, unfolding(model::specs::Rules::execute_at))]
-    fn execute_at(&self, i: usize) -> Result<(), Refusal>
+    pub fn execute_at(&self, i: usize) -> Result<(), Refusal>
         requires { i < length self.now.costs.now }
         ensures { result ≡ execute_at (plan_in self.now) (table_in self.now) i }
     {
@@ -63,19 +63,9 @@ impl PlannedTable<'_> {
         refuse_at(ends < starts + cost, Fault::ExecuteShort, i)
     }
 
-    #[tactic(auto, using(model::proofs::Refusals::in_order))]
-    pub fn executes(&self) -> Result<(), Refusal>
-        ensures { result ≡ first_bad (execute_at (plan_in self.now) (table_in self.now)) (length self.now.costs.now) }
-    {
-        for i in 0..self.costs.len() {
-            self.execute_at(i)?;
-        }
-        Ok(())
-    }
-
     // 13: the target of edge e reads no earlier than its source has ended.
     #[tactic(auto, unfolding(model::specs::Rules::edge_at))]
-    fn edge_at(&self, e: usize) -> Result<(), Refusal>
+    pub fn edge_at(&self, e: usize) -> Result<(), Refusal>
         requires { e < length self.now.edges.sources.now }
         ensures { result ≡ edge_at (plan_in self.now) (table_in self.now) e }
     {
@@ -84,16 +74,6 @@ impl PlannedTable<'_> {
         let starts = table::read_start(self.table, target);
         let ended = table::end_at(self.table, source);
         refuse_at(starts < ended, Fault::ReadEarly, target)
-    }
-
-    #[tactic(auto, using(model::proofs::Refusals::in_order))]
-    pub fn follows(&self) -> Result<(), Refusal>
-        ensures { result ≡ first_bad (edge_at (plan_in self.now) (table_in self.now)) (length self.now.edges.sources.now) }
-    {
-        for e in 0..self.edges.sources.len() {
-            self.edge_at(e)?;
-        }
-        Ok(())
     }
 
     fn span(&self, i: usize) -> Span
@@ -109,23 +89,13 @@ impl PlannedTable<'_> {
 
     // 14: task i's span and those of all higher tasks share no time of a core.
     #[tactic(auto, using(crate::proofs::Checks::pairs))]
-    fn cross_from(&self, i: usize) -> Result<(), Refusal>
+    pub fn cross_from(&self, i: usize) -> Result<(), Refusal>
         requires { i < length self.now.costs.now }
         ensures { result ≡ first_bad (cross_at (table_in self.now) i) (length self.now.costs.now) }
     {
         let span = self.span(i);
         for j in i + 1..self.costs.len() {
             refuse_at(span.crosses(self.span(j)), Fault::SpansCross, j)?;
-        }
-        Ok(())
-    }
-
-    #[tactic(auto, using(model::proofs::Refusals::in_order))]
-    pub fn crosses(&self) -> Result<(), Refusal>
-        ensures { result ≡ first_bad (λ i. first_bad (cross_at (table_in self.now) i) (length self.now.costs.now)) (length self.now.costs.now) }
-    {
-        for i in 0..self.costs.len() {
-            self.cross_from(i)?;
         }
         Ok(())
     }
