@@ -2,7 +2,7 @@
 use mathlib.Core.Path.{◌≡◌, refl, sym, ap, ◌∙◌}
 use mathlib.Core.Bool.{Bool, true, false, not}
 use mathlib.Core.List.{List, [], ◌∷◌, ◌++◌}
-use Prim.Native.Nat.{ℕ, ◌*◌, ◌/◌, ◌≤◌, ◌<◌}
+use Prim.Native.Nat.{ℕ, ◌*◌, ◌≤◌, ◌<◌}
 use native.Mathlib.Omega.{arith}
 use lib.ListN.{length, take, drop, length-append}
 use lib.Seq.{take-append_seam}
@@ -13,7 +13,7 @@ use Rattle.model.specs.Refusals.{refusal, Outcome, or_else, refuse_if, Check}
 use Rattle.model.specs.Plan.{Plan, Valid, tasks, cores}
 use Rattle.model.specs.Graph.{plan_of}
 use Rattle.model.specs.Table.{Table, of_numbers, table_of}
-use Rattle.model.specs.Contention.{Phases, of_phase, phases_of}
+use Rattle.model.specs.Contention.{Phases, phases_of}
 use Rattle.model.specs.Rules.{rules_check}
 use Rattle.model.specs.BusRule.{Use, answers, run, finish, waits}
 use Rattle.model.specs.Answers.{Judged, judged, declared, served_check, words_check, room, playing, played_of, played_output}
@@ -28,7 +28,7 @@ use Rattle.model.proofs.RoundTrip.{blocks_length, InRange}
 use Rattle.model.proofs.Rules.{good_of}
 use Rattle.model.proofs.Graph.{plan_read_lem}
 use Rattle.model.proofs.SameRun.{answers_same}
-use Rattle.contention.specs.Columns.{phases_by, Sized}
+use Rattle.contention.specs.Columns.{phases_by}
 use Rattle.guarantee.proofs.Lasting.{Accepted}
 use Rattle.guarantee.proofs.Guarantee.{by_phases, by_rivals}
 use Rattle.guarantee.proofs.Demand.{accepted}

@@ -1,24 +1,24 @@
 -- The round trips, in the entry points' own answers, and that each promise settles its answer and its output.
 -- Assumes nothing.
-use mathlib.Core.Path.{◌≡◌, refl, sym, ◌∙◌}
+use mathlib.Core.Path.{◌≡◌, sym, ◌∙◌}
 use mathlib.Core.List.{List, ◌++◌}
 use Prim.Native.Nat.{ℕ, ◌*◌, ◌≤◌, ◌<◌}
 use native.Mathlib.Omega.{arith}
 use lib.ListN.{length, drop}
 use borrow.Author.Tests.{le-ltb, eq-eqb}
 use Rattle.model.specs.Below.{at}
-use Rattle.model.specs.Refusals.{Outcome, or_else, Check}
+use Rattle.model.specs.Refusals.{or_else, Check}
 use Rattle.model.specs.Plan.{tasks, cores}
 use Rattle.model.specs.Graph.{plan_of}
 use Rattle.model.specs.Table.{of_numbers, of_bytes, numbers_at, numbers, bytes, rows_check, table_of, values_at, values_check}
-use Rattle.model.specs.Answers.{room, decoding, done_by, decoded_of, decoded_output, writing, written_of, written_output}
+use Rattle.model.specs.Answers.{room, decoding, decoded_of, decoded_output, writing, written_of, written_output}
 use Rattle.model.proofs.Refusals.{passed, or_good, and_then_lem, first_all}
 use Rattle.model.proofs.RoundTrip.{of_numbers_lem, in_range_same, values_good, written_reads, blocks_length}
 use Rattle.model.proofs.ReadBack.{numbers_write, numbers_all, values_in_range, rows_in_range, rows_length}
 use Rattle.model.proofs.Verdicts.{done_yes}
 use Rattle.table.proofs.Rows.{numbers_long}
 use Rattle.table.proofs.Entries.{given_length, given_values}
-use Rattle.std.specs.Prelude.{Ok, Err}
+use Rattle.std.specs.Prelude.{Ok}
 
 -- ---- "Read then write gives the same bytes"
 pub read_write : (plan s out : List ℕ) → ((k : ℕ) → at s k < 256) → decoded_of plan s out ≡ Ok tt
