@@ -105,7 +105,7 @@ module _ {costs sources targets links choices core words lengths start end : Lis
       first_all =
           record {
             few = omega (arith, room.few);
-            cores = omega (arith, room.cores_all);
+            cores = omega (arith, room.phases_all);
             starts = omega (arith, room.starts_all);
             ends = omega (arith, room.few, w.closes_all);
             loads = omega (arith, room.few, w.closes_all);
@@ -383,9 +383,7 @@ module _ {bus : Bus} {costs sources targets amounts links choices core words len
           costs_all = h;
           chained = ready.chained;
           choices_all = omega (arith, ready.choices_all);
-          cores_all = omega (arith, prep.cores_all);
-          loads_all = omega (arith, prep.loads_all);
-          lengths_all = omega (arith, prep.lengths_all);
+          phases_all = omega (arith, prep.cores_all);
           starts_all = omega (arith, d.starts.long);
           ends_all = omega (arith, d.ends.long);
           fits = omega (arith, ends_within, room_at a h);

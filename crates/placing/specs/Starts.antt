@@ -103,9 +103,7 @@ pub record Room (costs sources targets links choices core words lengths start en
   pub costs_all : a < length costs
   pub chained : Chained sources targets links (length costs)
   pub choices_all : a < length choices
-  pub cores_all : 2 * a + 2 ≤ length core
-  pub loads_all : 2 * a + 2 ≤ length words
-  pub lengths_all : 2 * a + 2 ≤ length lengths
+  pub phases_all : 2 * a + 2 ≤ length core
   pub starts_all : 2 * a + 2 ≤ length start
   pub ends_all : 2 * a + 2 ≤ length end
   pub fits : max_below (at end) (2 * a) + at lengths (2 * a) + at costs a + at lengths (2 * a + 1) < 4294967296

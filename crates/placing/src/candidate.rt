@@ -1,4 +1,5 @@
 // A candidate of the list rule, in columns.
+ghost use Rattle.std.specs.Prelude.{◌≤◌, length};
 ghost use Rattle.placing.specs.Candidates.{Ready};
 
 use contention::EdgeColumns;
@@ -17,10 +18,13 @@ pub struct Candidate<'a> {
     pub ghost ready: { Ready bus costs.now edges.sources.now edges.targets.now edges.amounts.now links.now choices.now },
 }
 
-// Of each phase its core, its words and the length of its window.
+// Of each phase its core, its words and the length of its window. There are as many as `core` has; the other columns may be
+// longer.
 #[derive(Clone, Copy)]
 pub struct PhaseLoads<'a> {
     pub core: &'a [u32],
     pub words: &'a [u32],
     pub lengths: &'a [u32],
+    pub ghost loads_all: { length core.now ≤ length words.now },
+    pub ghost lengths_all: { length core.now ≤ length lengths.now },
 }

@@ -109,9 +109,10 @@ fn run_rounds(
     ensures { Standing (as_candidate candidate.entry) (settled (as_candidate candidate.entry)) lengths.old start.old end.old lengths.new start.new end.new }
 {
     let tasks = candidate.costs.len();
+    let front = &core[..2 * tasks];
     for n in 0..most_rounds(tasks, candidate.bus.cores) {
         let phases = PhaseColumns {
-            core: &core[..2 * tasks],
+            core: front,
             start,
             end,
             words,
@@ -120,7 +121,7 @@ fn run_rounds(
             return;
         }
         let loads = PhaseLoads {
-            core,
+            core: front,
             words,
             lengths,
         };
@@ -194,7 +195,7 @@ pub fn settle(
 {
     prepare(candidate, cores, core, words, lengths);
     let loads = PhaseLoads {
-        core,
+        core: &core[..2 * candidate.costs.len()],
         words,
         lengths,
     };
