@@ -5,7 +5,8 @@ ghost use Rattle.placing.specs.Starts.{with_free, with_closes, with_tops};
 
 use crate::PhaseLoads;
 
-// From when each core is free, where each phase closes, and the greatest close before each phase.
+// From when each core is free, where each phase closes, and the greatest close before each phase: arrays of the greatest size,
+// since there is no heap.
 #[derive(Drop)]
 pub struct Board {
     pub free: [u32; 8],

@@ -1,5 +1,5 @@
 // The rounds of a candidate of the list rule, from its choices to its settled windows. Columns are by phase as everywhere: phase
-// 2a is place a's read, 2a + 1 its write. They stay slices, each by itself: a caller lends columns of any length that has room.
+// 2a is place a's read, 2a + 1 its write.
 #![tactic(auto)]
 
 ghost use Rattle.std.specs.Prelude.{◌≡◌, ◌++◌, ℕ, ◌+◌, ◌*◌, ◌-◌, ◌/◌, ◌≤◌, ◌<◌, max, ltb, length, drop};
@@ -18,7 +18,8 @@ use contention::PhaseColumns;
 use model::{Bus, Words};
 use placing::{Candidate, PhaseLoads};
 
-// The core of each place.
+// The core of each place. By index, as in all loops here that fill a column: of `iter_mut().zip(..)` the proof keeps no value that
+// was written.
 #[tactic(auto, using(contention::proofs::Columns::filling))]
 fn fill_cores(choices: &[u32], cores: &mut [u32])
     requires { length choices.now ≤ length cores.old }
@@ -91,7 +92,7 @@ fn most_rounds(tasks: usize, cores: u32) -> usize
     2 * tasks * (cores as usize - 1)
 }
 
-// The rounds: if one window grew, all are placed anew, until none grows.
+// The rounds: if one window grew, all are placed anew, until none grows. `n` is named for the invariant: no code reads it.
 #[tactic(auto, unfolding(model::specs::ListRule::rounds, model::specs::ListRule::settled))]
 fn run_rounds(
     candidate: Candidate<'_>,
@@ -129,7 +130,7 @@ fn run_rounds(
     }
 }
 
-// The greatest F.
+// The greatest F. The verifier's makespan is that of a table's bytes, which this crate does not meet.
 #[tactic(auto, using(contention::proofs::Columns::filling))]
 fn greatest_end(end: &[u32], tasks: usize) -> u32
     requires { 2 * tasks ≤ length end.now }
@@ -167,7 +168,8 @@ fn prepare(
     first_lengths(candidate.bus, &words[..2 * tasks], lengths);
 }
 
-// A candidate settled: its makespan, and its cores, words, lengths and windows in the lent columns.
+// A candidate settled: its makespan, and its cores, words, lengths and windows in the lent columns. They come each by itself, since
+// a caller may lend them of any length that has room, and they are written in turn.
 #[tactic(auto, unfolding(model::specs::ListRule::finished, model::specs::ListRule::placed))]
 pub fn settle(
     candidate: Candidate<'_>,

@@ -1,4 +1,4 @@
--- `placing::earlier::Earlier::exclusive_start` meets its contract. Every start that was passed clashes; the greatest end is not passed.
+-- `placing::Earlier::exclusive_start` meets its contract. Every start that was passed clashes; the greatest end is not passed.
 use lib.ListN.{length}
 use Prim.Native.Nat.{◌≤◌, ◌-◌, max}
 use Rattle.model.specs.Below.{at, max_below}
