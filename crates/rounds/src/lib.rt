@@ -130,7 +130,7 @@ fn run_rounds(
     }
 }
 
-// The greatest F. The verifier's makespan is that of a table's bytes, which this crate does not meet.
+// The greatest F. It shares no code with the verifier's `makespan`, which reads a table's numbers, five a task.
 #[tactic(auto, using(contention::proofs::Columns::filling))]
 fn greatest_end(end: &[u32], tasks: usize) -> u32
     requires { 2 * tasks ≤ length end.now }
@@ -168,8 +168,8 @@ fn prepare(
     first_lengths(candidate.bus, &words[..2 * tasks], lengths);
 }
 
-// A candidate settled: its makespan, and its cores, words, lengths and windows in the lent columns. They come each by itself, since
-// a caller may lend them of any length that has room, and they are written in turn.
+// A candidate settled: its makespan, and its cores, words, lengths and windows in the lent columns. These come each by itself: a
+// caller lends them of any length that has room, so a struct would have no fact to hold.
 #[tactic(auto, unfolding(model::specs::ListRule::finished, model::specs::ListRule::placed))]
 pub fn settle(
     candidate: Candidate<'_>,
