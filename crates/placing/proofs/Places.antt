@@ -378,11 +378,9 @@ module _ {bus : Bus} {costs sources targets amounts links choices core words len
     room_next =
         record {
           few = omega (arith, ready.few);
-          few_edges = ready.edges.few;
           few_cores = omega (arith, core_read a h, few a h);
           costs_all = h;
           chained = ready.chained;
-          choices_all = omega (arith, ready.choices_all);
           phases_all = omega (arith, prep.cores_all);
           starts_all = omega (arith, d.starts.long);
           ends_all = omega (arith, d.ends.long);

@@ -98,11 +98,9 @@ pub record Starts (costs sources targets choices core words lengths start end : 
 -- what is read to place a: the columns have it, and behind the greatest end before it there is room for its windows
 pub record Room (costs sources targets links choices core words lengths start end : List ℕ) (a : ℕ) : Type 0 where
   pub few : a < 64
-  pub few_edges : length sources ≤ 256
   pub few_cores : at core (2 * a) < 8
   pub costs_all : a < length costs
   pub chained : Chained sources targets links (length costs)
-  pub choices_all : a < length choices
   pub phases_all : 2 * a + 2 ≤ length core
   pub starts_all : 2 * a + 2 ≤ length start
   pub ends_all : 2 * a + 2 ≤ length end
