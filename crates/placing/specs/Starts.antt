@@ -96,7 +96,7 @@ pub record Starts (costs sources targets choices core words lengths start end : 
       → LeastFree (clash_by core start end words (2 * a) (task_at costs core words lengths a)) (earliest_by sources targets core end a) r
 
 -- what is read to place a: the columns have it, and behind the greatest end before it there is room for its windows
-pub record Room (costs sources targets links choices core words lengths start end : List ℕ) (a : ℕ) : Type 0 where
+pub record Room (costs sources targets links core lengths start end : List ℕ) (a : ℕ) : Type 0 where
   pub few : a < 64
   pub few_cores : at core (2 * a) < 8
   pub costs_all : a < length costs
