@@ -20,8 +20,8 @@ mod by_place;
 mod trial;
 
 // ---- the plan by list place
-// The place of a task in the list order; its length where there is none, as the definition `place_of` has it. std's `position` leaves
-// a goal: no law takes what it promises to that definition.
+// The place of a task in the list order; its length where there is none, as the definition `place_of` has it. std's `position`
+// leaves a goal: no law takes what it promises to that definition.
 #[tactic(auto, using(model::proofs::Below::first_none), unfolding(model::specs::Graph::place_of))]
 fn place_of(order: &[u8], task: usize) -> usize
     ensures { result ≡ place_of order.now task }
