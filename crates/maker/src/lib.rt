@@ -20,7 +20,8 @@ mod by_place;
 mod trial;
 
 // ---- the plan by list place
-// The place of a task in the list order; its length where there is none.
+// The place of a task in the list order; its length where there is none, as the definition `place_of` has it. std's `position`
+// leaves a goal: no law takes what it promises to that definition.
 #[tactic(auto, using(model::proofs::Below::first_none), unfolding(model::specs::Graph::place_of))]
 fn place_of(order: &[u8], task: usize) -> usize
     ensures { result ≡ place_of order.now task }
@@ -33,7 +34,8 @@ fn place_of(order: &[u8], task: usize) -> usize
     order.len()
 }
 
-// The execute time of the task at each place.
+// The execute time of the task at each place. By index, as in all loops here that fill a column: of `iter_mut().zip(..)` the proof
+// keeps no value that was written.
 #[tactic(auto, using(contention::proofs::Columns::filling))]
 fn fill_costs(costs: &[u16], order: &[u8], column: &mut [u32])
     requires room { length order.now ≤ length column.old }
@@ -59,7 +61,7 @@ fn fill_places(order: &[u8], ends: &[u8], column: &mut [u8])
 }
 
 // The edges to each place, as a chain: at a the last edge to place a, at 64 + e the last one before e to the same place, each as
-// one more than its number; 0 where there is none.
+// one more than its number; 0 where there is none (`Candidate.links` says why).
 #[tactic(auto, using(crate::proofs::Edges::linking))]
 fn link(targets: &[u8], links: &mut [u16])
     requires few { length targets.now ≤ 256 }

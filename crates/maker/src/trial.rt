@@ -11,7 +11,8 @@ use crate::{ByPlace, place_of};
 use contention::EdgeColumns;
 use placing::Candidate;
 
-// A candidate at work: the words of the edges within its places, its choices, and the columns that it is settled in.
+// A candidate at work: the words of the edges within its places, its choices, and the columns that it is settled in. Arrays of the
+// greatest size, since there is no heap.
 #[derive(Drop)]
 struct Trial {
     within: [u16; 256],
@@ -78,7 +79,7 @@ impl Trial {
         requires kept { take k self.old.choices ≡ chosen (plan_in plan.now) k }
         ensures { take (k + 1) self.new.choices ≡ chosen (plan_in plan.now) (k + 1) }
     {
-        // more than any makespan
+        // no Option, which would be asked anew for each choice: marks stay under 2 ^ 31 (`marks_fit`), so this loses to any
         let mut least = u32::MAX;
         let mut best = 0;
         for choice in 0..2 * plan.bus.cores {

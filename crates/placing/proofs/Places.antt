@@ -63,8 +63,8 @@ module _ (core start closes : List ℕ) (y mine own from to : ℕ) where
 pub ruleset meeting = (met_here, met_not)
 
 -- ---- one place, on columns
-module _ {costs sources targets links choices core words lengths start end : List ℕ} {a : ℕ}
-    (room : Room costs sources targets links choices core words lengths start end a) where
+module _ {costs sources targets links core lengths start end : List ℕ} {a : ℕ}
+    (room : Room costs sources targets links core lengths start end a) where
   abbrev ends : ℕ
   ends = max_below (at end) (2 * a)
 
@@ -86,11 +86,12 @@ module _ {costs sources targets links choices core words lengths start end : Lis
       (λ t. rw t zero-le))
 
   module _ {from : ℕ} (q : from ≡ earliest_by sources targets core end a) where
-    pub starts_overlapping : (at choices a % 2 ≡ 1 → ⊥) → Starts costs sources targets choices core words lengths start end a from
-    starts_overlapping d =
+    pub starts_overlapping :
+        {choices words : List ℕ} → (at choices a % 2 ≡ 1 → ⊥) → Starts costs sources targets choices core words lengths start end a from
+    starts_overlapping {choices} d =
         record { overlapping = λ _. q; alone = λ e. absurd (d (eqb-true (at choices a % 2) 1 e)) }
 
-    module _ {closes tops : List ℕ} (w : Closed words end closes tops a) where
+    module _ {words closes tops : List ℕ} (w : Closed words end closes tops a) where
       closes_within : max_below (at closes) (2 * a) ≤ ends
       unfolding close_of
       closes_within =
@@ -105,7 +106,7 @@ module _ {costs sources targets links choices core words lengths start end : Lis
       first_all =
           record {
             few = omega (arith, room.few);
-            cores = omega (arith, room.cores_all);
+            cores = omega (arith, room.phases_all);
             starts = omega (arith, room.starts_all);
             ends = omega (arith, room.few, w.closes_all);
             loads = omega (arith, room.few, w.closes_all);
@@ -152,9 +153,9 @@ module _ {costs sources targets links choices core words lengths start end : Lis
         closes_fit = rw (e, first_count) (omega (arith, closes_within, room.fits))
 
         pub starts_alone :
-            {r : ℕ} → at choices a % 2 ≡ 1 → LeastFree (clash_by first start closes closes (length first) t) from r
+            {choices : List ℕ} {r : ℕ} → at choices a % 2 ≡ 1 → LeastFree (clash_by first start closes closes (length first) t) from r
             → Starts costs sources targets choices core words lengths start end a r
-        starts_alone {r} o f =
+        starts_alone {choices} {r} o f =
             let g = rw e at f in
             let s = task_at costs core words lengths a in
             record {
@@ -374,18 +375,14 @@ module _ {bus : Bus} {costs sources targets amounts links choices core words len
     core_read : (b : ℕ) → b < k → at core (2 * b) ≡ core_in choices b
     core_read b m = prep.cores (2 * b) (omega arith) ∙ ap (core_in choices) (half_even b)
 
-    pub room_next : Room costs sources targets links choices core words lengths start end a
+    pub room_next : Room costs sources targets links core lengths start end a
     room_next =
         record {
           few = omega (arith, ready.few);
-          few_edges = ready.edges.few;
           few_cores = omega (arith, core_read a h, few a h);
           costs_all = h;
           chained = ready.chained;
-          choices_all = omega (arith, ready.choices_all);
-          cores_all = omega (arith, prep.cores_all);
-          loads_all = omega (arith, prep.loads_all);
-          lengths_all = omega (arith, prep.lengths_all);
+          phases_all = omega (arith, prep.cores_all);
           starts_all = omega (arith, d.starts.long);
           ends_all = omega (arith, d.ends.long);
           fits = omega (arith, ends_within, room_at a h);

@@ -96,16 +96,12 @@ pub record Starts (costs sources targets choices core words lengths start end : 
       → LeastFree (clash_by core start end words (2 * a) (task_at costs core words lengths a)) (earliest_by sources targets core end a) r
 
 -- what is read to place a: the columns have it, and behind the greatest end before it there is room for its windows
-pub record Room (costs sources targets links choices core words lengths start end : List ℕ) (a : ℕ) : Type 0 where
+pub record Room (costs sources targets links core lengths start end : List ℕ) (a : ℕ) : Type 0 where
   pub few : a < 64
-  pub few_edges : length sources ≤ 256
   pub few_cores : at core (2 * a) < 8
   pub costs_all : a < length costs
   pub chained : Chained sources targets links (length costs)
-  pub choices_all : a < length choices
-  pub cores_all : 2 * a + 2 ≤ length core
-  pub loads_all : 2 * a + 2 ≤ length words
-  pub lengths_all : 2 * a + 2 ≤ length lengths
+  pub phases_all : 2 * a + 2 ≤ length core
   pub starts_all : 2 * a + 2 ≤ length start
   pub ends_all : 2 * a + 2 ≤ length end
   pub fits : max_below (at end) (2 * a) + at lengths (2 * a) + at costs a + at lengths (2 * a + 1) < 4294967296

@@ -23,7 +23,7 @@ task_in c p a = task_at c.costs.now p.core.now p.words.now p.lengths.now a
 
 abbrev pub RoomIn : Candidate → PhaseLoads → List ℕ → List ℕ → ℕ → Type 0
 RoomIn c p start end a =
-    Room c.costs.now c.edges.sources.now c.edges.targets.now c.links.now c.choices.now p.core.now p.words.now p.lengths.now start end a
+    Room c.costs.now c.edges.sources.now c.edges.targets.now c.links.now p.core.now p.lengths.now start end a
 
 abbrev pub StartsIn : Candidate → PhaseLoads → List ℕ → List ℕ → ℕ → ℕ → Type 0
 StartsIn c p start end a r =

@@ -5,7 +5,8 @@ ghost use Rattle.placing.specs.Starts.{with_free, with_closes, with_tops};
 
 use crate::PhaseLoads;
 
-// From when each core is free, where each phase closes, and the greatest close before each phase.
+// From when each core is free, where each phase closes, and the greatest close before each phase: arrays of the greatest size,
+// since there is no heap.
 #[derive(Drop)]
 pub struct Board {
     pub free: [u32; 8],
@@ -17,8 +18,7 @@ impl Board {
     // Place a stands: its phases close, and its core is free from its F on.
     pub fn stand(&mut self, phases: &PhaseLoads<'_>, end: &[u32], a: usize)
         requires few { a < 64 }
-        requires cores_all { 2 * a + 2 ≤ length phases.now.core.now }
-        requires loads_all { 2 * a + 2 ≤ length phases.now.words.now }
+        requires phases_all { 2 * a + 2 ≤ length phases.now.core.now }
         requires ends_all { 2 * a + 2 ≤ length end.now }
         requires few_cores { at phases.now.core.now (2 * a) < 8 }
         ensures free { self.new.free ≡ with_free self.old.free phases.now.core.now end.now a }

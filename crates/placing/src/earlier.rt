@@ -38,7 +38,7 @@ pub struct Earlier<'a> {
 impl Earlier<'_> {
     ghost use Rattle.placing.specs.Views.{end_met_in, met_in, next_in, clash_in, AreOver};
 
-    // The end of phase y where the window meets it, 0 where not.
+    // The end of phase y where the window meets it, 0 where not: the greatest of all is sought, and 0 changes no greatest.
     #[tactic(auto, using(crate::proofs::Places::meeting))]
     fn end_met(&self, window: Window, y: usize) -> u32
         requires phase { y < length self.now.core.now }
@@ -60,7 +60,7 @@ impl Earlier<'_> {
         }
     }
 
-    // The greatest end that the window meets, 0 of none.
+    // The greatest end that the window meets, 0 of none: the start is then moved to it, and 0 moves no start.
     #[tactic(auto, using(crate::proofs::Exclusive::untils))]
     fn met_until(&self, window: Window) -> u32
         requires { AreOver self.now window.from }

@@ -53,7 +53,7 @@ fn earliest_start(
     a: usize,
 ) -> u32
     requires place_in { a < length candidate.now.costs.now }
-    requires cores_all { 2 * a + 2 ≤ length core.now }
+    requires phases_all { 2 * a + 2 ≤ length core.now }
     requires ends_all { 2 * a + 2 ≤ length end.now }
     requires few_cores { at core.now (2 * a) < 8 }
     requires freed { Freed core.now end.now free.now a }
@@ -66,9 +66,7 @@ fn earliest_start(
 // Place a as a task.
 fn task_at(candidate: &Candidate<'_>, phases: &PhaseLoads<'_>, a: usize) -> Task
     requires place_in { a < length candidate.now.costs.now }
-    requires cores_all { 2 * a + 2 ≤ length phases.now.core.now }
-    requires loads_all { 2 * a + 2 ≤ length phases.now.words.now }
-    requires lengths_all { 2 * a + 2 ≤ length phases.now.lengths.now }
+    requires phases_all { 2 * a + 2 ≤ length phases.now.core.now }
     ensures { result ≡ task_in candidate.now phases.now a }
 {
     let x = 2 * a;

@@ -46,6 +46,18 @@ module _ (t : Candidate) (core words first : List ℕ) (p : Prepared (as_candida
   count : length cores ≡ 2 * k
   count = length-take-le (2 * k) core p.cores_all
 
+  -- the first cores are all that matter
+  pub prepared_front : Prepared c cores words first
+  prepared_front =
+      record {
+        cores_all = omega (arith, count);
+        loads_all = p.loads_all;
+        lengths_all = p.lengths_all;
+        cores = λ x h. get_or-take (2 * k) core x 0 h ∙ p.cores x h;
+        loads = p.loads;
+        short = p.short;
+      }
+
   pub loads_fit : (x : ℕ) → x < length cores → at words x ≤ most_words
   loads_fit x h = omega (arith, count, p.loads x (omega (arith, count)), words_within c (core_in t.choices.now) (limits t) refl x)
 
@@ -117,13 +129,13 @@ module _ (t : Candidate) (core words first : List ℕ) (p : Prepared (as_candida
           })
 
       -- one grew: all are placed anew
-      pub prepared_next : length next ≡ length first → Prepared c core words next
+      pub prepared_next : length next ≡ length first → Prepared c cores words next
       prepared_next same =
           record {
-            cores_all = p.cores_all;
+            cores_all = prepared_front.cores_all;
             loads_all = p.loads_all;
             lengths_all = omega (arith, p.lengths_all);
-            cores = p.cores;
+            cores = prepared_front.cores;
             loads = p.loads;
             short =
                 λ x m.

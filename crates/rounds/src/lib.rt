@@ -1,5 +1,5 @@
 // The rounds of a candidate of the list rule, from its choices to its settled windows. Columns are by phase as everywhere: phase
-// 2a is place a's read, 2a + 1 its write. They stay slices, each by itself: a caller lends columns of any length that has room.
+// 2a is place a's read, 2a + 1 its write.
 #![tactic(auto)]
 
 ghost use Rattle.std.specs.Prelude.{◌≡◌, ◌++◌, ℕ, ◌+◌, ◌*◌, ◌-◌, ◌/◌, ◌≤◌, ◌<◌, max, ltb, length, drop};
@@ -18,7 +18,8 @@ use contention::PhaseColumns;
 use model::{Bus, Words};
 use placing::{Candidate, PhaseLoads};
 
-// The core of each place.
+// The core of each place. By index, as in all loops here that fill a column: of `iter_mut().zip(..)` the proof keeps no value that
+// was written.
 #[tactic(auto, using(contention::proofs::Columns::filling))]
 fn fill_cores(choices: &[u32], cores: &mut [u32])
     requires { length choices.now ≤ length cores.old }
@@ -91,7 +92,7 @@ fn most_rounds(tasks: usize, cores: u32) -> usize
     2 * tasks * (cores as usize - 1)
 }
 
-// The rounds: if one window grew, all are placed anew, until none grows.
+// The rounds: if one window grew, all are placed anew, until none grows. `n` is named for the invariant: no code reads it.
 #[tactic(auto, unfolding(model::specs::ListRule::rounds, model::specs::ListRule::settled))]
 fn run_rounds(
     candidate: Candidate<'_>,
@@ -109,9 +110,10 @@ fn run_rounds(
     ensures { Standing (as_candidate candidate.entry) (settled (as_candidate candidate.entry)) lengths.old start.old end.old lengths.new start.new end.new }
 {
     let tasks = candidate.costs.len();
+    let front = &core[..2 * tasks];
     for n in 0..most_rounds(tasks, candidate.bus.cores) {
         let phases = PhaseColumns {
-            core: &core[..2 * tasks],
+            core: front,
             start,
             end,
             words,
@@ -120,7 +122,7 @@ fn run_rounds(
             return;
         }
         let loads = PhaseLoads {
-            core,
+            core: front,
             words,
             lengths,
         };
@@ -128,7 +130,7 @@ fn run_rounds(
     }
 }
 
-// The greatest F.
+// The greatest F. It shares no code with the verifier's `makespan`, which reads a table's numbers, five a task.
 #[tactic(auto, using(contention::proofs::Columns::filling))]
 fn greatest_end(end: &[u32], tasks: usize) -> u32
     requires { 2 * tasks ≤ length end.now }
@@ -166,7 +168,8 @@ fn prepare(
     first_lengths(candidate.bus, &words[..2 * tasks], lengths);
 }
 
-// A candidate settled: its makespan, and its cores, words, lengths and windows in the lent columns.
+// A candidate settled: its makespan, and its cores, words, lengths and windows in the lent columns. These come each by itself: a
+// caller lends them of any length that has room, so a struct would have no fact to hold.
 #[tactic(auto, unfolding(model::specs::ListRule::finished, model::specs::ListRule::placed))]
 pub fn settle(
     candidate: Candidate<'_>,
@@ -194,7 +197,7 @@ pub fn settle(
 {
     prepare(candidate, cores, core, words, lengths);
     let loads = PhaseLoads {
-        core,
+        core: &core[..2 * candidate.costs.len()],
         words,
         lengths,
     };

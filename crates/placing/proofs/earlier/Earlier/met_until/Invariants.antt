@@ -1,4 +1,4 @@
--- `placing::earlier::Earlier::met_until` meets its contract. The greatest end met of the phases passed.
+-- `placing::Earlier::met_until` meets its contract. The greatest end met of the phases passed.
 use mathlib.Core.Path.{◌≡◌}
 use Rattle.model.specs.Below.{max_below}
 use Rattle.placing.specs.Views.{end_met_in}
