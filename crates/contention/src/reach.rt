@@ -19,6 +19,9 @@ pub struct Reach<'a> {
     pub tops: &'a [u32],
     pub lows: &'a [u32],
     pub ghost spread: { Spread phases.start.now phases.end.now phases.words.now (length phases.core.now) closes.now tops.now lows.now },
+    pub ghost closes_all: { length closes.now ≡ length phases.core.now },
+    pub ghost tops_all: { length tops.now ≡ length phases.core.now },
+    pub ghost lows_all: { length lows.now ≡ length phases.core.now },
 }
 
 impl Reach<'_> {
