@@ -48,6 +48,7 @@ impl Reach<'_> {
         requires within { hi ≤ length self.now.phases.core.now }
         ensures { result + count_below (near_to self.now.phases self.now.closes.now x) lo ≡ count_below (near_to self.now.phases self.now.closes.now x) hi }
     {
+        // Added up in a `for`: it is hot, and what `filter` and `count` give is not proved by the check alone.
         let mut n = 0;
         for y in lo..hi {
             n += u32::from(self.near(x, y));
