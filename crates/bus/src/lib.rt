@@ -44,7 +44,9 @@ fn soonest<P: Fn(usize) -> bool, V: Fn(usize) -> u32>(
 // The i-th core after the last served, going round.
 #[tactic(auto, unfolding(crate::specs::Heads::after_of))]
 fn after(cores: usize, last: usize, i: usize) -> usize
-    requires { (last < cores) × (i ≤ cores) × (cores ≤ 8) }
+    requires served { last < cores }
+    requires turn { i ≤ cores }
+    requires few { cores ≤ 8 }
     ensures { result ≡ after_of cores last i }
 {
     let c = last + 1 + i;
@@ -61,7 +63,8 @@ fn part_of_slot(bus: Bus, left: Words) -> Words
 // The time for which words hold the bus: T/D each.
 #[tactic(auto, unfolding(model::specs::BusRule::held, model::specs::Counts::word_time))]
 fn holding(bus: Bus, words: Words) -> Time
-    requires { Settings bus × (held bus words.0 < 2 ^ 32) }
+    requires settings { Settings bus }
+    requires fits { held bus words.0 < 2 ^ 32 }
     ensures { result.0 ≡ held bus words.0 }
 {
     Time(bus.t.0 / bus.d.0 * words.0)
@@ -151,8 +154,7 @@ impl Run<'_> {
         self.headed(d) && self.head_start(d) <= time
     }
 
-    // The first core after the last served, going round, that asks. Its one caller has one that asks, so the answer without
-    // one is never read.
+    // The first core after the last served, going round, that asks. Where none asks, no caller reads the answer.
     #[tactic(auto, using(crate::proofs::Heads::turning))]
     fn turn(&self, last: usize, time: u32) -> usize
         requires { last < length self.now.head.now }
