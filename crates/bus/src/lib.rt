@@ -2,7 +2,7 @@
 // words that each has left, and each core's head: of its phases with words left the one that starts first.
 #![tactic(auto)]
 
-ghost use Rattle.std.specs.Prelude.{◌≡◌, ◌++◌, ℕ, ◌+◌, ◌*◌, ◌<◌, ◌≤◌, min, true, Bool, length, drop};
+ghost use Rattle.std.specs.Prelude.{◌≡◌, ◌++◌, ℕ, ◌+◌, ◌*◌, ◌^◌, ◌<◌, ◌≤◌, min, true, Bool, length, drop};
 ghost use Rattle.model.specs.Below.{at, list_below};
 ghost use Rattle.model.specs.Counts.{D, Settings};
 ghost use Rattle.model.specs.BusRule.{answers, held};
@@ -44,7 +44,9 @@ fn soonest<P: Fn(usize) -> bool, V: Fn(usize) -> u32>(
 // The i-th core after the last served, going round.
 #[tactic(auto, unfolding(crate::specs::Heads::after_of))]
 fn after(cores: usize, last: usize, i: usize) -> usize
-    requires { (last < cores) × (i ≤ cores) × (cores ≤ 8) }
+    requires served { last < cores }
+    requires turn { i ≤ cores }
+    requires few { cores ≤ 8 }
     ensures { result ≡ after_of cores last i }
 {
     let c = last + 1 + i;
@@ -61,15 +63,17 @@ fn part_of_slot(bus: Bus, left: Words) -> Words
 // The time for which words hold the bus: T/D each.
 #[tactic(auto, unfolding(model::specs::BusRule::held, model::specs::Counts::word_time))]
 fn holding(bus: Bus, words: Words) -> Time
-    requires { Settings bus × (held bus words.0 < 4294967296) }
+    requires settings { Settings bus }
+    requires fits { held bus words.0 < 2 ^ 32 }
     ensures { result.0 ≡ held bus words.0 }
 {
     Time(bus.t.0 / bus.d.0 * words.0)
 }
 
-// No code: of a slice it is known that its numbers have 32 bits, of one in a struct only where a contract says so.
+// No code: of a slice it is known that its numbers have 32 bits, of one in a struct only where a contract says so. A ghost field of
+// `PhaseColumns` cannot say it, since callers that fill `end` in a loop or a call could not show it.
 fn ends_fit(end: &[u32])
-    ensures { (z : ℕ) → at end.now z < 4294967296 }
+    ensures { (z : ℕ) → at end.now z < 2 ^ 32 }
 {}
 
 impl Run<'_> {
@@ -82,6 +86,7 @@ impl Run<'_> {
         self.left[y] != 0 && self.phases.core[y] as usize == c
     }
 
+    // Of core c's phases with words left the one that starts first; the number of phases if there is none.
     #[tactic(auto, unfolding(crate::specs::Heads::head_of))]
     fn head_of(&self, c: usize) -> usize
         ensures { result ≡ head_in self.now c }
@@ -122,6 +127,7 @@ impl Run<'_> {
         self.head[d] < self.left.len()
     }
 
+    // When the head of core d, which has one, starts.
     #[tactic(auto, unfolding(crate::specs::Heads::head_start))]
     fn head_start(&self, d: usize) -> u32
         requires known { d < length self.now.head.now }
@@ -148,7 +154,7 @@ impl Run<'_> {
         self.headed(d) && self.head_start(d) <= time
     }
 
-    // The first core after the last served, going round, that asks.
+    // The first core after the last served, going round, that asks. Where none asks, no caller reads the answer.
     #[tactic(auto, using(crate::proofs::Heads::turning))]
     fn turn(&self, last: usize, time: u32) -> usize
         requires { last < length self.now.head.now }

@@ -1,5 +1,5 @@
 // What a run under way keeps.
-ghost use Rattle.std.specs.Prelude.{◌≡◌, ℕ, ◌<◌, ◌≤◌, length};
+ghost use Rattle.std.specs.Prelude.{◌≡◌, ℕ, ◌^◌, ◌<◌, ◌≤◌, length};
 ghost use Rattle.model.specs.Below.{at};
 
 use contention::PhaseColumns;
@@ -13,5 +13,5 @@ pub struct Run<'a> {
     pub head: &'a mut [usize],
     pub ghost counted: { length left.now ≡ length phases.core.now },
     pub ghost few: { length head.now ≤ 8 },
-    pub ghost ends: { (z : ℕ) → at phases.end.now z < 4294967296 },
+    pub ghost ends: { (z : ℕ) → at phases.end.now z < 2 ^ 32 },
 }

@@ -19,6 +19,9 @@ pub struct Reach<'a> {
     pub tops: &'a [u32],
     pub lows: &'a [u32],
     pub ghost spread: { Spread phases.start.now phases.end.now phases.words.now (length phases.core.now) closes.now tops.now lows.now },
+    pub ghost closes_all: { length closes.now ≡ length phases.core.now },
+    pub ghost tops_all: { length tops.now ≡ length phases.core.now },
+    pub ghost lows_all: { length lows.now ≡ length phases.core.now },
 }
 
 impl Reach<'_> {
@@ -45,6 +48,7 @@ impl Reach<'_> {
         requires within { hi ≤ length self.now.phases.core.now }
         ensures { result + count_below (near_to self.now.phases self.now.closes.now x) lo ≡ count_below (near_to self.now.phases self.now.closes.now x) hi }
     {
+        // Added up in a `for`: it is hot, and what `filter` and `count` give is not proved by the check alone.
         let mut n = 0;
         for y in lo..hi {
             n += u32::from(self.near(x, y));

@@ -12,5 +12,5 @@ near_between-n-requires-clause-ordered c =
 pub returns : goal.returns
 returns c =
     let r = c.args.self.now in
-    let n = rivals_between r.phases.core.now r.spread c.requires.phase c.requires.loaded c.back_to-lo.ensures c.ahead_to-hi.ensures.within c.ahead_to-hi.ensures.here c.near_between-n.ensures in
+    let n = rivals_between r.phases.core.now r.spread c.requires.phase c.requires.loaded c.back_to-lo.ensures (omega (arith, c.ahead_to-hi.ensures.within, r.lows_all)) (λ b. c.ahead_to-hi.ensures.here (omega (arith, b, r.lows_all))) c.near_between-n.ensures in
     omega (arith, n, c.min.ensures)
