@@ -27,7 +27,7 @@ pub fn two_at(s: &[u8], i: usize) -> u16
     requires { i + 1 < length s.now }
     ensures { result ≡ two s.now i }
 {
-    u16::from(s[i]) * 256 + u16::from(s[i + 1])
+    u16::from_be_bytes([s[i], s[i + 1]])
 }
 
 // The body's length of a tag that the bytes of a side may hold.
@@ -222,7 +222,7 @@ impl<'a> Reader<'a> {
     }
 }
 
-// What a reader at a position gives.
+// What a reader at a position gives: `field_at` and `Reader::next` with other parameters, and public as they are.
 pub fn step_from(plan: &[u8], at: usize) -> Result<Option<Field>, Refusal>
     ensures { result ≡ plan_step plan.now at }
 {

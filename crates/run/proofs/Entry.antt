@@ -12,15 +12,18 @@ use Rattle.model.specs.declared.Bus.{Bus}
 use Rattle.model.specs.declared.Refusal.{Refusal}
 use Rattle.model.proofs.Below.{list_length}
 use Rattle.contention.specs.Columns.{phases_by}
-use Rattle.verifier.specs.Judging.{column_of, phase_cores, phase_starts, phase_ends, phase_loads}
+use Rattle.verifier.specs.Judging.{judgement_of, column_of, phase_cores, phase_starts, phase_ends, phase_loads}
 use Rattle.bus.specs.Playing.{use_of, Playable}
 use Rattle.run.specs.Checks.{run_by}
 use Rattle.std.specs.Prelude.{Ok, Err}
 use Rattle.model.specs.Refusals.{Check}
 use Rattle.verifier.specs.declared.Obeyed.{Obeyed}
-use Rattle.run.proofs.Ways.{Found, Ruled, ruled_is, front_cores, front_starts, front_ends, front_loads, playable, Answered, unplayed, served_good, words_long, words_within, room_good, played}
+use Rattle.run.proofs.Ways.{Found, found, Ruled, ruled_is, front_cores, front_starts, front_ends, front_loads, playable, Answered, unplayed, served_good, words_long, words_within, room_good, played}
 
-module _ (p s : List ℕ) {k : Obeyed} (o : Found (judged p s) k) where
+module _ (p s : List ℕ) {k : Obeyed} (e : judgement_of p s ≡ Ok k) where
+  pub o : Found (judged p s) k
+  o = found p s e
+
   abbrev bus : Bus
   bus = k.bus
 
@@ -52,31 +55,31 @@ module _ (p s : List ℕ) {k : Obeyed} (o : Found (judged p s) k) where
       front_length = list_length _ (2 * tasks o.j.plan)
 
       module _ (served : ℕ) (words out : List ℕ) (x : Check) (q : x ≡ run_by bus.cores served (take (2 * n) most) words (length out)) where
-        found : x ≡ run_by (cores o.j.plan) served (phase_loads o.j.plan (of_numbers o.j.table)) words (length out)
-        found = rw (o.bus_is, at_loads) at q
+        ruled : x ≡ run_by (cores o.j.plan) served (phase_loads o.j.plan (of_numbers o.j.table)) words (length out)
+        ruled = rw (o.bus_is, at_loads) at q
 
         pub unplayed_at : {r : Refusal} → x ≡ Err r → Answered p s served words out (Err r) out
-        unplayed_at = unplayed p s served words out o.j o.given x found
+        unplayed_at = unplayed p s served words out o.j o.given x ruled
 
         module _ (g : x ≡ Ok tt) where
           pub playable_at : Playable bus (phases_by (take (2 * n) core) (take (2 * n) start) (take (2 * n) end) (take (2 * n) most) (length (take (2 * n) core))) served words
           playable_at =
               rw (o.bus_is, at_cores, at_starts, at_ends, at_loads, front_length)
               (playable o.j rule served words
-              (served_good p s served words out o.j o.given x found g)
-              (words_long p s served words out o.j o.given x found g)
-              (words_within p s served words out o.j o.given x found g))
+              (served_good p s served words out o.j o.given x ruled g)
+              (words_long p s served words out o.j o.given x ruled g)
+              (words_within p s served words out o.j o.given x ruled g))
 
           pub room_at : 2 * length words ≤ length out
           room_at =
               omega (
                 arith,
-                words_long p s served words out o.j o.given x found g,
-                room_good p s served words out o.j o.given x found g,
+                words_long p s served words out o.j o.given x ruled g,
+                room_good p s served words out o.j o.given x ruled g,
               )
 
           pub played_at : (out' : List ℕ)
               → out' ≡ answers bus (phases_by (take (2 * n) core) (take (2 * n) start) (take (2 * n) end) (take (2 * n) most) (length (take (2 * n) core))) (use_of served words) ++ drop (2 * length words) out
               → Answered p s served words out (Ok tt) out'
-          played_at out' e =
-              played p s served words out o.j o.given x found g rule out' (rw (o.bus_is, at_cores, at_starts, at_ends, at_loads, front_length) at e)
+          played_at out' now =
+              played p s served words out o.j o.given x ruled g rule out' (rw (o.bus_is, at_cores, at_starts, at_ends, at_loads, front_length) at now)

@@ -14,7 +14,8 @@ use model::{Fault, Refusal, Side};
 use plan::Columns;
 
 // ---- a table in working memory: these five know where a number stands. A plain slice, as C lends it, so each says of its length
-// what it needs; five names and not one with an offset as its parameter, since the offsets are known here alone.
+// what it needs; five names and not one with an offset as its parameter, since the offsets are known here alone. Where a number of
+// tasks stands beside a table it is at most 64, so that offsets fit.
 pub fn core_at(table: &[u32], i: usize) -> u32
     requires { 5 * i + 5 ≤ length table.now }
     ensures { result ≡ (of_numbers table.now).core i }

@@ -91,7 +91,8 @@ fn rules(
     })
 }
 
-// A table's bytes judged by a plan's. The phases of a table that reads are left in the lent columns.
+// A table's bytes judged by a plan's. The phases of a table that reads are left in the lent columns, which are four and no struct
+// for the reason that `fill_windows` has.
 #[tactic(auto, using(model::proofs::ReadBack::rows_length), unfolding(crate::specs::Judging::judgement_of, crate::specs::Judging::column_of, crate::specs::Judging::ruled, model::specs::Answers::judged, model::specs::Table::table_of))]
 pub fn judge(
     plan: &[u8],

@@ -44,7 +44,7 @@ impl Span {
     fn crosses(self, other: Span) -> bool
         ensures { result ≡ crossing self.core self.from self.to other.core other.from other.to }
     {
-        (self.core == other.core) & (self.from.max(other.from) < self.to.min(other.to))
+        self.core == other.core && self.from.max(other.from) < self.to.min(other.to)
     }
 }
 

@@ -1,7 +1,7 @@
 -- `run::run` meets its contract: by what judging and the checks found, and what is played.
 use Rattle.std.proofs.Common.{sym, arith}
 use Rattle.std.proofs.lemmas.Grind.{common_steps}
-use Rattle.run.proofs.Ways.{found, unjudged}
+use Rattle.run.proofs.Ways.{unjudged}
 use Rattle.run.proofs.Entry.{unplayed_at, playable_at, room_at, played_at}
 use Rattle.run.proofs.run.Goals as goal
 
@@ -17,31 +17,25 @@ returns-in_err-obeyed-clause-output c =
 
 pub returns-in_err-run_check-clause-answer : goal.returns-in_err-run_check-clause-answer
 returns-in_err-run_check-clause-answer c =
-    let o = found _ _ (sym c.in_ok-obeyed.ensures.answer) in
-    let both = unplayed_at _ _ o _ _ _ _ _ _ _ _ c.judge.ensures.phases c.args.served _ c.args.out.now _ c.run_check.ensures c.in_err-run_check.was in
+    let both = unplayed_at _ _ (sym c.in_ok-obeyed.ensures.answer) _ _ _ _ _ _ _ _ c.judge.ensures.phases c.args.served _ c.args.out.now _ c.run_check.ensures c.in_err-run_check.was in
     grind (arith, common_steps, both.0)
 
 pub returns-in_err-run_check-clause-output : goal.returns-in_err-run_check-clause-output
 returns-in_err-run_check-clause-output c =
-    let o = found _ _ (sym c.in_ok-obeyed.ensures.answer) in
-    (unplayed_at _ _ o _ _ _ _ _ _ _ _ c.judge.ensures.phases c.args.served _ _ _ c.run_check.ensures c.in_err-run_check.was).1
+    (unplayed_at _ _ (sym c.in_ok-obeyed.ensures.answer) _ _ _ _ _ _ _ _ c.judge.ensures.phases c.args.served _ _ _ c.run_check.ensures c.in_err-run_check.was).1
 
 pub play-requires-clause-playable : goal.play-requires-clause-playable
 play-requires-clause-playable c =
-    let o = found _ _ (sym c.in_ok-obeyed.ensures.answer) in
-    playable_at _ _ o _ _ _ _ _ _ _ _ c.judge.ensures.phases c.args.served _ c.args.out.now _ c.run_check.ensures c.in_ok-run_check.was
+    playable_at _ _ (sym c.in_ok-obeyed.ensures.answer) _ _ _ _ _ _ _ _ c.judge.ensures.phases c.args.served _ c.args.out.now _ c.run_check.ensures c.in_ok-run_check.was
 
 pub play-requires-clause-room : goal.play-requires-clause-room
 play-requires-clause-room c =
-    let o = found _ _ (sym c.in_ok-obeyed.ensures.answer) in
-    room_at _ _ o _ _ _ _ _ _ _ _ c.judge.ensures.phases c.args.served _ c.args.out.now _ c.run_check.ensures c.in_ok-run_check.was
+    room_at _ _ (sym c.in_ok-obeyed.ensures.answer) _ _ _ _ _ _ _ _ c.judge.ensures.phases c.args.served _ c.args.out.now _ c.run_check.ensures c.in_ok-run_check.was
 
 pub returns-clause-answer : goal.returns-clause-answer
 returns-clause-answer c =
-    let o = found _ _ (sym c.in_ok-obeyed.ensures.answer) in
-    (played_at _ _ o _ _ _ _ _ _ _ _ c.judge.ensures.phases c.args.served _ _ _ c.run_check.ensures c.in_ok-run_check.was _ c.play.ensures).0
+    (played_at _ _ (sym c.in_ok-obeyed.ensures.answer) _ _ _ _ _ _ _ _ c.judge.ensures.phases c.args.served _ _ _ c.run_check.ensures c.in_ok-run_check.was _ c.play.ensures).0
 
 pub returns-clause-output : goal.returns-clause-output
 returns-clause-output c =
-    let o = found _ _ (sym c.in_ok-obeyed.ensures.answer) in
-    (played_at _ _ o _ _ _ _ _ _ _ _ c.judge.ensures.phases c.args.served _ _ _ c.run_check.ensures c.in_ok-run_check.was _ c.play.ensures).1
+    (played_at _ _ (sym c.in_ok-obeyed.ensures.answer) _ _ _ _ _ _ _ _ c.judge.ensures.phases c.args.served _ _ _ c.run_check.ensures c.in_ok-run_check.was _ c.play.ensures).1
