@@ -15,7 +15,7 @@ use Rattle.model.proofs.Tests.{either, same_or_not}
 use Rattle.model.proofs.Plan.{snoc_old, snoc_new}
 use Rattle.model.proofs.Chosen.{chosen_core, chosen_length}
 use Rattle.placing.specs.Candidates.{FewCores}
-use Rattle.maker.specs.Choosing.{Listed, span_with}
+use Rattle.maker.specs.Choosing.{Listed, span_choosing}
 
 -- ---- the best so far
 -- what code has in hand after the choices below n: the best of them, and its makespan
@@ -60,8 +60,8 @@ module _ (q : Plan) (k : ℕ) (l : List ℕ) (room : k < length l) (kept : take 
   pub stored_last : (x : ℕ) → take (k + 1) (set l k x) ≡ chosen q k ++ (x ∷ [])
   stored_last x = take-set_at l k (k + 1) x refl room ∙ ap (λ (m : List ℕ). m ++ (x ∷ [])) kept
 
-  pub chosen_next : (best : ℕ) → best ≡ best_below (span_with q k) (2 * cores q) → take (k + 1) (set l k best) ≡ chosen q (k + 1)
-  unfolding chosen span_with
+  pub chosen_next : (best : ℕ) → best ≡ best_below (span_choosing q k) (2 * cores q) → take (k + 1) (set l k best) ≡ chosen q (k + 1)
+  unfolding chosen span_choosing
   chosen_next best e =
       let more : chosen q (k + 1) ≡ chosen q (suc k) = rw add-one in
       stored_last best ∙ ap (λ (x : ℕ). chosen q k ++ (x ∷ [])) e ∙ sym more

@@ -10,8 +10,8 @@ use Rattle.model.specs.ListRule.{candidate, makespan_of, chosen}
 use Rattle.placing.specs.Candidates.{Chained}
 
 -- the makespan with a choice for place k, behind those of the places before it
-unfoldable pub span_with : Plan → ℕ → ℕ → ℕ
-span_with q k choice = makespan_of (candidate q (chosen q k ++ (choice ∷ [])))
+unfoldable pub span_choosing : Plan → ℕ → ℕ → ℕ
+span_choosing q k choice = makespan_of (candidate q (chosen q k ++ (choice ∷ [])))
 
 -- what holds of a plan in list order, and of the chains of its edges (`Ready` of every candidate follows from it)
 pub record Listed (q : Plan) (links : List ℕ) : Type 0 where

@@ -4,7 +4,7 @@ ghost use Rattle.model.specs.Below.{at};
 ghost use Rattle.model.specs.Table.{numbers_at, bytes};
 ghost use Rattle.model.specs.ListRule.{candidate, finished, makespan_of, chosen, winner};
 ghost use Rattle.placing.specs.Candidates.{FewCores};
-ghost use Rattle.maker.specs.Choosing.{span_with, by_task, Placed};
+ghost use Rattle.maker.specs.Choosing.{span_choosing, by_task, Placed};
 ghost use Rattle.maker.specs.Views.{plan_in, Within, table_by};
 
 use crate::{ByPlace, place_of};
@@ -58,12 +58,12 @@ impl Trial {
     }
 
     // The makespan with a choice for place k, behind those of the places before it.
-    fn span_with(&mut self, plan: &ByPlace<'_>, k: usize, choice: u32) -> u32
+    fn span_choosing(&mut self, plan: &ByPlace<'_>, k: usize, choice: u32) -> u32
         requires place_in { k < length plan.now.costs.now }
         requires within { Within plan.now (k + 1) self.old.within }
         requires kept { take k self.old.choices ≡ chosen (plan_in plan.now) k }
         requires few_cores { choice < 16 }
-        ensures span { result ≡ span_with (plan_in plan.now) k choice }
+        ensures span { result ≡ span_choosing (plan_in plan.now) k choice }
         ensures within { self.new.within ≡ self.old.within }
         ensures kept { take k self.new.choices ≡ take k self.old.choices }
     {
@@ -83,7 +83,7 @@ impl Trial {
         let mut least = u32::MAX;
         let mut best = 0;
         for choice in 0..2 * plan.bus.cores {
-            let span = self.span_with(plan, k, choice);
+            let span = self.span_choosing(plan, k, choice);
             if span < least {
                 least = span;
                 best = choice;

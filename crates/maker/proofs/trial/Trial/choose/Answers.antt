@@ -10,7 +10,7 @@ use Rattle.maker.proofs.trial.Trial.choose.Goals.{then-span-least, else-span-lea
 pub loop-choice-preserved : goal.loop-choice-preserved
 loop-choice-preserved c =
     let i = c.loop-choice.invariant in
-    let s = c.span_with-span.ensures in
+    let s = c.span_choosing-span.ensures in
     record {
       within = cc;
       kept = s.kept ∙ i.kept;

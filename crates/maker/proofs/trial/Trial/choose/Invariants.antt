@@ -3,7 +3,7 @@ use lib.ListN.{take}
 use mathlib.Core.Path.{◌≡◌}
 use Prim.Native.Nat.{◌+◌}
 use Rattle.model.specs.ListRule.{chosen}
-use Rattle.maker.specs.Choosing.{span_with}
+use Rattle.maker.specs.Choosing.{span_choosing}
 use Rattle.maker.specs.Views.{plan_in, Within}
 use Rattle.maker.proofs.Choosing.{Leading}
 use Rattle.maker.proofs.trial.Trial.choose.Given as goal
@@ -13,5 +13,5 @@ invariant-loop-choice l =
     record {
       within : Within l.plan (l.k + 1) l.self.within;
       kept : take l.k l.self.choices ≡ chosen (plan_in l.plan) l.k;
-      leading : Leading (span_with (plan_in l.plan) l.k) l.choice l.best l.least;
+      leading : Leading (span_choosing (plan_in l.plan) l.k) l.choice l.best l.least;
     }
