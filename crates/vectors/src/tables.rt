@@ -21,31 +21,13 @@ pub fn take_numbers(s: &[u8], out: &mut [u32]) -> usize
     count
 }
 
-// The table read into a lent list.
-fn read_into(rt: &impl Print, plan: &[u8], table: &[u8], out: &mut [u32]) -> io::Result<()> {
-    let answer = table::read(plan, table, out);
-    print!(rt; "read")?;
-    if let Err(refusal) = answer {
-        crate::text::refusal(rt, refusal)?;
-    }
-    print!(rt; " list")?;
-    crate::text::numbers(rt, out)?;
-    println!(rt)
-}
-
 pub fn show_read(rt: &impl Print, plan: &[u8], table: &[u8], room: usize) -> io::Result<()> {
     let mut out = [9u32; 2048];
-    read_into(rt, plan, table, &mut out[..fitting(room)])
-}
-
-// The table written into lent bytes.
-fn write_into(rt: &impl Print, plan: &[u8], table: &[u32], out: &mut [u8]) -> io::Result<()> {
-    let answer = table::write(plan, table, out);
-    print!(rt; "write")?;
-    if let Err(refusal) = answer {
-        crate::text::refusal(rt, refusal)?;
-    }
-    print!(rt; " bytes")?;
+    let out = &mut out[..fitting(room)];
+    let answer = table::read(plan, table, out);
+    print!(rt; "read")?;
+    crate::text::check(rt, answer)?;
+    print!(rt; " list")?;
     crate::text::numbers(rt, out)?;
     println!(rt)
 }
@@ -54,32 +36,28 @@ pub fn show_write(rt: &impl Print, plan: &[u8], numbers: &[u8], room: usize) -> 
     let mut table = [0u32; 2048];
     let count = take_numbers(numbers, &mut table);
     let mut out = [9u8; 2048];
-    write_into(rt, plan, &table[..count], &mut out[..fitting(room)])
-}
-
-pub fn show_verify(rt: &impl Print, plan: &[u8], table: &[u8]) -> io::Result<()> {
-    print!(rt; "verify")?;
-    match verifier::verify(plan, table) {
-        Ok(makespan) => print!(rt; " {}", makespan.0)?,
-        Err(refusal) => crate::text::refusal(rt, refusal)?,
-    }
-    println!(rt)
-}
-
-// The table made into lent bytes.
-fn make_into(rt: &impl Print, plan: &[u8], out: &mut [u8]) -> io::Result<()> {
-    let answer = maker::make(plan, out);
-    print!(rt; "make")?;
-    match answer {
-        Ok(makespan) => print!(rt; " {}", makespan.0)?,
-        Err(refusal) => crate::text::refusal(rt, refusal)?,
-    }
+    let out = &mut out[..fitting(room)];
+    let answer = table::write(plan, &table[..count], out);
+    print!(rt; "write")?;
+    crate::text::check(rt, answer)?;
     print!(rt; " bytes")?;
     crate::text::numbers(rt, out)?;
     println!(rt)
 }
 
+pub fn show_verify(rt: &impl Print, plan: &[u8], table: &[u8]) -> io::Result<()> {
+    print!(rt; "verify")?;
+    crate::text::time(rt, verifier::verify(plan, table))?;
+    println!(rt)
+}
+
 pub fn show_make(rt: &impl Print, plan: &[u8], room: usize) -> io::Result<()> {
     let mut out = [9u8; 2048];
-    make_into(rt, plan, &mut out[..fitting(room)])
+    let out = &mut out[..fitting(room)];
+    let answer = maker::make(plan, out);
+    print!(rt; "make")?;
+    crate::text::time(rt, answer)?;
+    print!(rt; " bytes")?;
+    crate::text::numbers(rt, out)?;
+    println!(rt)
 }

@@ -1,5 +1,5 @@
 // Printing answers.
-use model::Refusal;
+use model::{Refusal, Time};
 use std::fmt::Display;
 use std::io;
 
@@ -17,4 +17,20 @@ pub fn numbers<T: Display>(rt: &impl Print, list: &[T]) -> io::Result<()> {
         print!(rt; " {x}")?;
     }
     Ok(())
+}
+
+// What a check answers: nothing of a success.
+pub fn check(rt: &impl Print, answer: Result<(), Refusal>) -> io::Result<()> {
+    match answer {
+        Ok(()) => Ok(()),
+        Err(r) => refusal(rt, r),
+    }
+}
+
+// A makespan, or the refusal.
+pub fn time(rt: &impl Print, answer: Result<Time, Refusal>) -> io::Result<()> {
+    match answer {
+        Ok(makespan) => print!(rt; " {}", makespan.0),
+        Err(r) => refusal(rt, r),
+    }
 }
