@@ -1,6 +1,6 @@
 // A candidate of the list rule, in columns.
 ghost use Rattle.std.specs.Prelude.{◌≤◌, length};
-ghost use Rattle.placing.specs.Candidates.{Ready};
+ghost use Rattle.placing.specs.Candidates.{Ready, FewCores};
 
 use contention::EdgeColumns;
 use model::Bus;
@@ -18,6 +18,7 @@ pub struct Candidate<'a> {
     // order, and ties follow from it.
     pub choices: &'a [u32],
     pub ghost ready: { Ready bus costs.now edges.sources.now edges.targets.now edges.amounts.now links.now choices.now },
+    pub ghost few_cores: { FewCores choices.now (length costs.now) },
 }
 
 // Of each phase its core, its words and the length of its window. There are as many as `core` has; the other columns may be

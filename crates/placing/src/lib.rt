@@ -5,7 +5,6 @@
 ghost use Rattle.std.specs.Prelude.{◌≡◌, ◌++◌, ◌+◌, ◌*◌, ◌^◌, ◌≤◌, ◌<◌, length, drop};
 ghost use Rattle.model.specs.Below.{at};
 ghost use Rattle.contention.specs.Columns.{start_column, end_column};
-ghost use Rattle.placing.specs.Candidates.{FewCores};
 ghost use Rattle.placing.specs.Starts.{sent_by, earliest_by, Freed, Closed, with_pair, Prepared};
 ghost use Rattle.placing.specs.Views.{as_candidate, placed_in, task_in, RoomIn, StartsIn};
 
@@ -130,7 +129,6 @@ fn put_windows(cost: u32, lengths: &[u32], a: usize, r: u32, start: &mut [u32], 
 // Step 2: the windows of all places, in list order.
 pub fn place(candidate: Candidate<'_>, phases: PhaseLoads<'_>, start: &mut [u32], end: &mut [u32])
     requires prepared { Prepared (as_candidate candidate) phases.core.now phases.words.now phases.lengths.now }
-    requires few_cores { FewCores candidate.choices.now (length candidate.costs.now) }
     requires starts_room { 2 * length candidate.costs.now ≤ length start.old }
     requires ends_room { 2 * length candidate.costs.now ≤ length end.old }
     ensures starts { start.new ≡ start_column (length candidate.entry.costs.now) (placed_in candidate.entry phases.entry.lengths.now) ++ drop (2 * length candidate.entry.costs.now) start.old }

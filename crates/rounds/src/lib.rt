@@ -9,7 +9,6 @@ ghost use Rattle.model.specs.Rules.{delay_at};
 ghost use Rattle.model.specs.ListRule.{core_in, first_lengths, settled, finished, makespan_of};
 ghost use Rattle.contention.specs.Columns.{core_column, start_column, end_column};
 ghost use Rattle.contention.specs.Views.{as_phases};
-ghost use Rattle.placing.specs.Candidates.{FewCores};
 ghost use Rattle.placing.specs.Starts.{Prepared};
 ghost use Rattle.placing.specs.Views.{as_candidate};
 ghost use Rattle.rounds.specs.Standing.{Standing};
@@ -106,7 +105,6 @@ fn run_rounds(
     requires standing { Standing (as_candidate candidate) (first_lengths (as_candidate candidate)) lengths.old start.old end.old lengths.old start.old end.old }
     requires starts_room { 2 * length candidate.costs.now ≤ length start.old }
     requires ends_room { 2 * length candidate.costs.now ≤ length end.old }
-    requires few_cores { FewCores candidate.choices.now (length candidate.costs.now) }
     ensures { Standing (as_candidate candidate.entry) (settled (as_candidate candidate.entry)) lengths.old start.old end.old lengths.new start.new end.new }
 {
     let tasks = candidate.costs.len();
@@ -180,7 +178,6 @@ pub fn settle(
     start: &mut [u32],
     end: &mut [u32],
 ) -> u32
-    requires few_cores { FewCores candidate.choices.now (length candidate.costs.now) }
     requires cores_room { length candidate.costs.now ≤ length cores.old }
     requires core_room { 2 * length candidate.costs.now ≤ length core.old }
     requires words_room { 2 * length candidate.costs.now ≤ length words.old }

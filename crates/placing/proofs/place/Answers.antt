@@ -8,20 +8,20 @@ loop-a-init c = record { done = done_none _ _ _; freed = freed_none _ _; closed 
 pub start_at-r-requires-clause-room : goal.start_at-r-requires-clause-room
 start_at-r-requires-clause-room c =
     let q = c.requires in
-    room_next c.args.candidate.ready q.prepared q.few_cores q.starts_room q.ends_room c.loop-a-test.true c.loop-a.invariant.done
+    room_next c.args.candidate.ready q.prepared c.args.candidate.few_cores q.starts_room q.ends_room c.loop-a-test.true c.loop-a.invariant.done
 
 pub put_windows-requires-clause-fits : goal.put_windows-requires-clause-fits
 put_windows-requires-clause-fits c =
     let q = c.requires in
-    start_fits c.args.candidate.ready q.prepared q.few_cores q.starts_room q.ends_room c.loop-a-test.true c.loop-a.invariant.done c.start_at-r.ensures
+    start_fits c.args.candidate.ready q.prepared c.args.candidate.few_cores q.starts_room q.ends_room c.loop-a-test.true c.loop-a.invariant.done c.start_at-r.ensures
 
 pub loop-a-preserved : goal.loop-a-preserved
 loop-a-preserved c =
     let q = c.requires in
     let i = c.loop-a.invariant in
     let h = c.loop-a-test.true in
-    let room = room_next c.args.candidate.ready q.prepared q.few_cores q.starts_room q.ends_room h i.done in
-    let done = done_more c.args.candidate.ready q.prepared q.few_cores q.starts_room q.ends_room h i.done c.start_at-r.ensures c.put_windows.ensures.starts c.put_windows.ensures.ends in
+    let room = room_next c.args.candidate.ready q.prepared c.args.candidate.few_cores q.starts_room q.ends_room h i.done in
+    let done = done_more c.args.candidate.ready q.prepared c.args.candidate.few_cores q.starts_room q.ends_room h i.done c.start_at-r.ensures c.put_windows.ensures.starts c.put_windows.ensures.ends in
     let kept = done_kept i.done done in
     record {
       done = done;
