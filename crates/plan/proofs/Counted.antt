@@ -6,13 +6,13 @@ use mathlib.Core.List.{List}
 use Prim.Native.Nat.{ℕ, zero, suc, ◌+◌, ◌-◌, ◌≤◌, ◌<◌, min}
 use native.Mathlib.Omega.{arith}
 use lib.Dec.{eqb}
-use lib.ListN.{length, set, length-set}
-use lib.Seq.{get_or-set_other}
+use lib.ListN.{length, set, length-set, take}
+use lib.Seq.{get_or-set_other, get_or-take, length-take-le}
 use Rattle.std.proofs.lemmas.Grind.{common_steps}
 use borrow.Author.Tests.{eq-eqb, ne_eqb}
 use Rattle.model.specs.Below.{join_below, at, bit, count_below}
 use Rattle.model.proofs.Tests.{lt_or_ge}
-use Rattle.model.proofs.Below.{join_step, sum_zero, sum_longer, first}
+use Rattle.model.proofs.Below.{join_step, sum_zero, sum_longer, first, first_same}
 use Rattle.plan.specs.Order.{Parts, Passed, Raised, Released, edges_to, edges_between, next_by}
 
 -- nothing is counted from e on
@@ -135,3 +135,25 @@ passed_next n m sources targets left mid i low ei h r =
           ap (λ (x : ℕ). eqb x 1) (get_or-set_other mid i k 0 0 (λ q. omega (arith, r.least)) ∙ same)
           ∙ (first (λ j. eqb (at left j) 1) n).before k (omega (arith, r.least, ei));
     }
+
+-- ---- it is looked for among the front of what is kept
+module _ (n : ℕ) (left : List ℕ) (long : n ≤ length left) where
+  front_next : next_by (length (take n left)) (take n left) ≡ next_by n left
+  unfolding next_by
+  front_next =
+      rw (length-take-le n left long)
+      (first_same (λ i. eqb (at (take n left) i) 1) (λ i. eqb (at left i) 1) n
+      (λ i h. ap (λ (x : ℕ). eqb x 1) (get_or-take n left i 0 h)))
+
+  pub front_passed : (from : ℕ) → Passed n left from → Passed (length (take n left)) (take n left) from
+  front_passed from p =
+      record {
+        within = omega (arith, length-take-le n left long, p.within);
+        none = λ k h. ap (λ (x : ℕ). eqb x 1) (get_or-take n left k 0 (omega (arith, h, p.within))) ∙ p.none k h;
+      }
+
+  pub front_ready : {i : ℕ} → (i ≡ next_by (length (take n left)) (take n left)) × (i < length (take n left)) → (i ≡ next_by n left) × (i < n)
+  front_ready q = (q.0 ∙ front_next, omega (arith, length-take-le n left long, q.1))
+
+  pub front_stuck : next_by (length (take n left)) (take n left) ≡ length (take n left) → next_by n left ≡ n
+  front_stuck e = omega (arith, length-take-le n left long, front_next, e)

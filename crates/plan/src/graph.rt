@@ -63,7 +63,7 @@ impl<'a> Graph<'a> {
         let mut left = self.waiting();
         let mut from = 0;
         for taken in 0..self.tasks {
-            let Some(i) = next_ready(self.tasks, from, &left) else {
+            let Some(i) = next_ready(&left[..self.tasks], from) else {
                 return taken;
             };
             order[taken] = i as u8;
@@ -75,12 +75,11 @@ impl<'a> Graph<'a> {
 }
 
 // The lowest task that is not taken and that no edge keeps waiting. None is below `from`.
-fn next_ready(tasks: usize, from: usize, left: &[u8; 64]) -> Option<usize>
-    requires few { tasks ≤ 64 }
-    requires passed { Passed tasks left.now from }
-    ensures { MatchOption result (next_by tasks left.now ≡ tasks) (λ i. (i ≡ next_by tasks left.now) × (i < tasks)) }
+fn next_ready(left: &[u8], from: usize) -> Option<usize>
+    requires { Passed (length left.now) left.now from }
+    ensures { MatchOption result (next_by (length left.now) left.now ≡ length left.now) (λ i. (i ≡ next_by (length left.now) left.now) × (i < length left.now)) }
 {
-    for i in from..tasks {
+    for i in from..left.len() {
         if left[i] == 1 {
             return Some(i);
         }
