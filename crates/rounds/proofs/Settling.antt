@@ -90,11 +90,13 @@ module _ (t : Candidate) where
         }
 
   -- the greatest F
-  pub greatest : (end rest : List ℕ) → end ≡ end_column k (placed c (settled c)) ++ rest → max_below (λ a. at end (2 * a + 1)) k ≡ makespan_of c
+  pub greatest : (end rest : List ℕ) → end ≡ end_column k (placed c (settled c)) ++ rest
+      → max_below (λ a. at (take (2 * k) end) (2 * a + 1)) (length (take (2 * k) end) / 2) ≡ makespan_of c
   unfolding makespan_of finished
   greatest end rest e =
       let f : ℕ → ℕ = of_phase (finished c).E (finished c).F in
-      max_same _ (finished c).F k
-      (λ a h.
-      front_at (end_column k (finished c)) rest end (2 * k) (list_length _ (2 * k)) e (2 * a + 1) (omega arith)
-      ∙ list_at f (2 * k) (2 * a + 1) (omega arith) ∙ of_odd (finished c).E (finished c).F a)
+      let all : length (end_column k (finished c)) ≡ 2 * k = list_length f (2 * k) in
+      let half : 2 * k / 2 ≡ k = omega arith in
+      rw (front_take (end_column k (finished c)) rest end (2 * k) all e, all, half)
+      (max_same _ (finished c).F k
+      (λ a h. list_at f (2 * k) (2 * a + 1) (omega arith) ∙ of_odd (finished c).E (finished c).F a))

@@ -130,12 +130,11 @@ fn run_rounds(
 
 // The greatest F. It shares no code with the verifier's `makespan`, which reads a table's numbers, five a task.
 #[tactic(auto, using(contention::proofs::Columns::filling))]
-fn greatest_end(end: &[u32], tasks: usize) -> u32
-    requires { 2 * tasks ≤ length end.now }
-    ensures { result ≡ max_below (λ a. at end.now (2 * a + 1)) tasks }
+fn greatest_end(end: &[u32]) -> u32
+    ensures { result ≡ max_below (λ a. at end.now (2 * a + 1)) (length end.now / 2) }
 {
     let mut most = 0;
-    for a in 0..tasks {
+    for a in 0..end.len() / 2 {
         most = end[2 * a + 1].max(most);
     }
     most
@@ -200,5 +199,5 @@ pub fn settle(
     };
     placing::place(candidate, loads, start, end);
     run_rounds(candidate, core, words, lengths, start, end);
-    greatest_end(end, candidate.costs.len())
+    greatest_end(&end[..2 * candidate.costs.len()])
 }
