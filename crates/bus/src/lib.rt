@@ -106,7 +106,8 @@ impl Run<'_> {
         }
     }
 
-    // Before the first grant each phase ends at its start, with no waits.
+    // Before the first grant each phase ends at its start, with no waits. `out` is the caller's and may be longer than the answers:
+    // so each function that fills it asks for the room.
     fn open_answers(&self, out: &mut [u32])
         requires { 2 * length self.now.left.now ≤ length out.old }
         ensures { out.new ≡ opened self.now.phases.start.now (length self.now.left.now) ++ drop (2 * length self.now.left.now) out.old }

@@ -11,7 +11,8 @@ pub struct EdgeColumns<'a> {
 }
 
 // Phases in columns, phase x at index x (2i the read of task i, 2i + 1 its write): core, window [start, end) and words.
-// There are as many as `core` has; the other columns may be longer.
+// There are as many as `core` has; the other columns may be longer. That words are at most `most_words` is asked where delays are:
+// a bus run takes any.
 #[derive(Clone, Copy)]
 pub struct PhaseColumns<'a> {
     pub core: &'a [u32],

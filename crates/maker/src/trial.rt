@@ -121,7 +121,7 @@ impl Trial {
         ]
     }
 
-    // The bytes of the table, at the front of a lent output.
+    // The bytes of the table, at the front of a lent output, which may be longer: so each function that fills it asks for the room.
     #[tactic(auto, using(table::proofs::Rows::byte_blocks))]
     fn put_table(&self, plan: &ByPlace<'_>, out: &mut [u8])
         requires few_cores { (a : ℕ) → a < length plan.now.costs.now → at self.now.cores a < 256 }

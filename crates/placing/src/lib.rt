@@ -1,5 +1,6 @@
 // Step 2 of the list rule: the windows of a candidate's phases, placed in list order. Columns are by phase as everywhere:
-// phase 2a is place a's read, 2a + 1 its write.
+// phase 2a is place a's read, 2a + 1 its write. `start` and `end` are filled on the way, so no struct holds them beside what is read:
+// they are parameters of their own, and each function asks that place a is within them.
 #![tactic(auto)]
 
 ghost use Rattle.std.specs.Prelude.{◌≡◌, ◌++◌, ◌+◌, ◌*◌, ◌^◌, ◌≤◌, ◌<◌, length, drop};

@@ -91,7 +91,8 @@ fn most_rounds(tasks: usize, cores: u32) -> usize
     2 * tasks * (cores as usize - 1)
 }
 
-// The rounds: if one window grew, all are placed anew, until none grows. `n` is named for the invariant: no code reads it.
+// The rounds: if one window grew, all are placed anew, until none grows. `n` is named for the invariant: no code reads it. The
+// columns come each by itself, as `settle` has them.
 #[tactic(auto, unfolding(model::specs::ListRule::rounds, model::specs::ListRule::settled))]
 fn run_rounds(
     candidate: Candidate<'_>,

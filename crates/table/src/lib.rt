@@ -14,8 +14,7 @@ use model::{Fault, Refusal, Side};
 use plan::Columns;
 
 // ---- a table in working memory: these five know where a number stands. A plain slice, as C lends it, so each says of its length
-// what it needs; five names and not one with an offset as its parameter, since the offsets are known here alone. Where a number of
-// tasks stands beside a table it is at most 64, so that offsets fit.
+// what it needs; five names and not one with an offset as its parameter, since the offsets are known here alone.
 pub fn core_at(table: &[u32], i: usize) -> u32
     requires { 5 * i + 5 ≤ length table.now }
     ensures { result ≡ (of_numbers table.now).core i }
@@ -51,7 +50,8 @@ pub fn end_at(table: &[u32], i: usize) -> u32
     table[5 * i + 4]
 }
 
-// Of phase x (2i the read of task i, 2i + 1 its write): its core, and its window.
+// Of phase x (2i the read of task i, 2i + 1 its write): its core, and its window. Start and end have a name each, as the marks have:
+// one function over both would need a third to choose from.
 pub fn phase_core(table: &[u32], x: usize) -> u32
     requires { 5 * (x / 2) + 5 ≤ length table.now }
     ensures { result ≡ (of_numbers table.now).core (x / 2) }
@@ -131,7 +131,8 @@ fn field_row(s: &[u8], i: usize) -> Row
     }
 }
 
-// ---- checks
+// ---- checks. The number of tasks stands beside a list of any length, since another one is refused; it is at most 64, so that
+// offsets fit, and a plain number, as a plan has it.
 fn refused(fault: Fault, place: usize) -> Refusal
     ensures { result ≡ record { fault = fault; side = Side.OfTable; place = place } }
 {
@@ -190,7 +191,7 @@ fn take_row(s: &[u8], i: usize, out: &mut [u32])
     put_numbers(out, i, field_row(s, i));
 }
 
-// The numbers of all fields, at the front of a list.
+// The numbers of all fields, at the front of a list. Both lists may be longer, so their number of tasks stands beside them.
 #[tactic(auto, using(crate::proofs::Rows::number_blocks))]
 pub fn take_rows(s: &[u8], tasks: usize, out: &mut [u32])
     requires { (tasks ≤ 64) × (20 * tasks ≤ length s.now) × (5 * tasks ≤ length out.old) }

@@ -87,7 +87,7 @@ impl PlannedTable<'_> {
         }
     }
 
-    // 14: task i's span and those of all higher tasks share no time of a core.
+    // 14: task i's span and those of all higher tasks share no time of a core. A loop of its own: `first_bad` would begin at task 0.
     #[tactic(auto, using(crate::proofs::Checks::pairs))]
     pub fn cross_from(&self, i: usize) -> Result<(), Refusal>
         requires { i < length self.now.costs.now }
