@@ -80,8 +80,8 @@ show('1b', 'arms that rebuild what they took: X(r) => Y(r)', grep(r'\w+::\w+\((\
 show('1b', 'functions that answer an index or, behind a search, what stands for none', of(lambda f: f.result == 'usize' and re.search(r'^\s+return ', f.body, re.M) and re.search(r'\b(for|while|loop)\b', f.body)))
 
 # ---- 2
-show('2', 'twins by name: one thing for two types, sides, halves or answers', grep(r'fn (index|number|core_index|wide|long|later|lesser|earlier|plan_body|table_body|after_(header|task|edge)|sooner_(phase|core)|head_of|lead_of|show_(bytes|halves|numbers)|word|bytes|halves|numbers|near_at|near_between|cross_at|order_check|byte_at|free_core|close_place|refuse_if|field_check|given_check|execute_from|edges_from|cross_from|windows_from)\('))
-show('2', 'loops over checks: the first that refuses', of(lambda f: re.search(r'if let Check::Bad\(\w+\) = .*\{\s*return|check\(i\)\?|\?;\s*\}\s*Ok\(\(\)\)', f.body) and re.search(r'\b(for|while)\b', f.body)))
+show('2', 'twins by name: one thing for two types, sides, halves or answers', grep(r'fn (index|number|core_index|wide|long|later|lesser|earlier|plan_body|table_body|after_(header|task|edge)|sooner_(phase|core)|head_of|lead_of|bytes|halves|numbers|near_at|byte_at|refuse_if|refused|side_number|field_check|given_check|(read|write|run|make)_into)\('))
+show('2', 'loops over checks: the first that refuses', of(lambda f: re.search(r'if let Check::Bad|check\(i\)\?|refuse_at\(.*\)\?', f.body) and re.search(r'\b(for|while)\b', f.body)))
 
 
 def plain(f):
@@ -130,7 +130,7 @@ show('6b', 'requires that bound a parameter by the length of another', ['%s %s: 
 
 # ---- 7
 show('7', 'a test of a number for what to do', grep(r'kind == \d|side == \d|\bmatch (kind|tag|number|side) \{|match \(side, tag\)'))
-show('7', 'closures', grep(r'\|\w*\| '))
+show('7', 'closures', grep(r'[(,] ?\|\w+\| '))
 show('7b', 'functions that compare one name with two literals and more', of(lambda f: any(n > 1 for n in collections.Counter(re.findall(r'\b(\w+) == \d+', f.body)).values())))
 
 # ---- 8
