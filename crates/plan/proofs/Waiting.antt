@@ -110,8 +110,8 @@ module _ (n : ℕ) (sources targets : List ℕ) where
         ))
         (λ d. omega (arith, ap bit (ne_eqb (at targets k) j d), to_le j k v (omega arith) (λ e l p. low e (omega arith) p)))
 
-    pub to_room : (j : ℕ) → at (replicate 64 1) j + edges_to (length targets) targets j < 256
-    to_room j = rw ok.paired (omega (arith, ones 64 j, to_le j m n (omega arith) (λ e l p. ok.sources_low e l), ok.few_tasks))
+    pub to_room : (j : ℕ) → at (replicate 64 1) j + edges_to m targets j < 256
+    to_room j = omega (arith, ones 64 j, to_le j m n (omega arith) (λ e l p. ok.sources_low e l), ok.few_tasks)
       where
         ones : (k j : ℕ) → at (replicate k 1) j ≤ 1
         ones zero j = omega arith
@@ -125,9 +125,8 @@ module _ (n : ℕ) (sources targets : List ℕ) where
         sum_same (λ e. bit (not (taken [] (at sources e)) && eqb (at targets e) j)) (λ e. bit (eqb (at targets e) j)) m
         (λ e h. ap (λ (b : Bool). bit (not b && eqb (at targets e) j)) (none_taken (at sources e)))
 
-    pub kept_none : (left : List ℕ) → Raised (edges_to (length targets) targets) (replicate 64 1) left → Kept [] left
-    kept_none left raised =
-        let r = rw ok.paired at raised in
+    pub kept_none : (left : List ℕ) → Raised (edges_to m targets) (replicate 64 1) left → Kept [] left
+    kept_none left r =
         record {
           long = r.long ∙ length-replicate {A = ℕ} 64 1;
           each =
@@ -249,7 +248,7 @@ listed_stays p r e zero = rw (zero-add r)
 listed_stays p r e (suc k) = let q : suc k + r ≡ suc (k + r) = omega arith in rw (q, listed_stays p r e k) e
 
 module _ (n : ℕ) (s t : List ℕ) (ok : Edges n s t) where
-  pub ordered_start : (order left : List ℕ) → Raised (edges_to (length t) t) (replicate 64 1) left → Ordered n s t order order left 0
+  pub ordered_start : (order left : List ℕ) → Raised (edges_to (length s) t) (replicate 64 1) left → Ordered n s t order order left 0
   unfolding listed
   ordered_start order left k =
       record { within = omega arith; long = refl; ordered = filled_none order; kept = kept_none n s t ok left k }

@@ -68,7 +68,6 @@ module _ (bytes : List ℕ) (c : Columns) (e : c ≡ columns_of (reading_of byte
         (record {
           few_tasks = v.few_tasks;
           few_edges = v.few_edges;
-          paired = v.targets_all;
           sources_low = v.sources_known;
           targets_low = v.targets_known;
           rising = v.rising;

@@ -14,7 +14,6 @@ graph_of n sources targets =
 pub record Edges (n : ℕ) (sources targets : List ℕ) : Type 0 where
   pub few_tasks : n ≤ 64
   pub few_edges : length sources ≤ 256
-  pub paired : length targets ≡ length sources
   pub sources_low : (e : ℕ) → e < length sources → at sources e < n
   pub targets_low : (e : ℕ) → e < length sources → at targets e < n
   pub rising : (e : ℕ) → e + 1 < length sources → key_of (at sources e) (at targets e) < key_of (at sources (e + 1)) (at targets (e + 1))

@@ -10,6 +10,7 @@ pub struct Graph<'a> {
     pub sources: &'a [u8],
     pub targets: &'a [u8],
     pub ghost edges: { Edges tasks sources.now targets.now },
+    pub ghost paired: { length targets.now ≡ length sources.now },
 }
 
 impl<'a> Graph<'a> {
@@ -18,7 +19,7 @@ impl<'a> Graph<'a> {
 
     // For each task 1, and 1 more for each edge that ends there.
     fn waiting(self) -> [u8; 64]
-        ensures { Raised (edges_to (length self.entry.targets.now) self.entry.targets.now) (replicate 64 1) result }
+        ensures { Raised (edges_to (length self.entry.sources.now) self.entry.targets.now) (replicate 64 1) result }
     {
         let mut left = [1; 64];
         for target in self.targets {

@@ -8,7 +8,7 @@ pub loop-target-init : goal.loop-target-init
 loop-target-init c = to_none _ _
 
 pub overflow_add-left : goal.overflow_add-left
-overflow_add-left c = omega (arith, to_fits _ _ _ _ _ _ c.loop-target-test.true c.loop-target.invariant c.from.ensures (to_room _ _ _ c.args.self.edges))
+overflow_add-left c = omega (arith, to_fits _ _ _ _ _ _ c.loop-target-test.true c.loop-target.invariant c.from.ensures (rw c.args.self.paired (to_room _ _ _ c.args.self.edges)))
 
 pub loop-target-preserved : goal.loop-target-preserved
 loop-target-preserved c = to_next _ _ _ _ _ _ c.loop-target-test.true c.loop-target.invariant c.from.ensures
