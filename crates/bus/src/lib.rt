@@ -28,6 +28,7 @@ fn soonest<P: Fn(usize) -> bool, V: Fn(usize) -> u32>(
     requires reads { (i : ℕ) → i < count → P.post passes i true → V.pre value i }
     ensures { (number : ℕ → ℕ) (test : ℕ → Bool) → Gives (V.post value) number count → Gives (P.post passes) test count → result ≡ soonest_below number test count }
 {
+    // The first that passes: among the numbers from 0 its place is the number.
     let mut best = (0..count).position(&passes)?;
     for i in best + 1..count {
         if passes(i) && value(i) < value(best) {
