@@ -28,17 +28,14 @@ fn soonest<P: Fn(usize) -> bool, V: Fn(usize) -> u32>(
     requires reads { (i : ℕ) → i < count → P.post passes i true → V.pre value i }
     ensures { (number : ℕ → ℕ) (test : ℕ → Bool) → Gives (V.post value) number count → Gives (P.post passes) test count → result ≡ soonest_below number test count }
 {
-    // `count` stands for none on the way: a mark beside the number would make the search slower.
-    let mut best = count;
-    for i in 0..count {
-        if passes(i) {
-            let v = value(i);
-            if best == count || v < value(best) {
-                best = i;
-            }
+    // The first that passes: among the numbers from 0 its place is the number.
+    let mut best = (0..count).position(&passes)?;
+    for i in best + 1..count {
+        if passes(i) && value(i) < value(best) {
+            best = i;
         }
     }
-    if best < count { Some(best) } else { None }
+    Some(best)
 }
 
 // The i-th core after the last served, going round.
