@@ -74,7 +74,7 @@ show('1', 'own enums with a case for a refusal, or for none', grep(r'^\s+(Refuse
 show('1', 'a refusal passed on by hand', grep(r'if let Check::Bad|=> \w+::(Refused|Broken)|return \w+::(Refused|Bad)'))
 show('1', 'a check or a mark beside a value', grep(r'^\s+pub (check|started):'))
 show('1', 'numbers for kinds and faults', grep(r'fn (number_of|side_number)\(|kind == [0-9]'))
-show('1', 'an index or a count that stands for none', grep(r'^    (tasks|count|most\.len\(\)|order\.len\(\)|lows\.len\(\)|after\(head\.len\(\), last, i\)|best)$|let mut best = (left|head)\.len\(\)|let mut best = count;|unwrap_or\(count\)'))
+show('1', 'an index or a count that stands for none', grep(r'^    (tasks|count|most\.len\(\)|order\.len\(\)|lows\.len\(\)|after\(head\.len\(\), last, i\)|best)$|let mut best = (left|head)\.len\(\)|unwrap_or\(count\)'))
 show('1b', 'enums of which a case holds a Refusal, or that have two cases, one empty', ['%s %s' % (f, n) for f, n, b in enums if 'Refusal' in b or (len(re.findall(r'^    \w+', b, re.M)) == 2 and re.search(r'^    \w+,', b, re.M))])
 show('1b', 'arms that rebuild what they took: X(r) => Y(r)', grep(r'\w+::\w+\((\w+)\) => (return )?\w+::\w+\(\1\)|Err\((\w+)\) => (return )?Err\(\3\)'))
 show('1b', 'functions that answer an index or, behind a search, what stands for none', of(lambda f: f.result == 'usize' and re.search(r'^\s+return ', f.body, re.M) and re.search(r'\b(for|while|loop)\b', f.body)))
