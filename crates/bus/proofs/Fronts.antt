@@ -1,4 +1,4 @@
--- A caller with a longer column of cores lends its front: what `play` asks for and answers is the same of it.
+-- A caller with a longer column of cores lends its front: what `play_phases` asks for and answers is the same of it.
 -- Assumes nothing.
 use mathlib.Core.Path.{◌≡◌, sym, ◌∙◌}
 use mathlib.Core.List.{List}

@@ -6,6 +6,7 @@ ghost use Rattle.std.specs.Prelude.{◌≡◌, ◌++◌, ℕ, ◌+◌, ◌*◌, 
 ghost use Rattle.model.specs.Below.{at, list_below};
 ghost use Rattle.model.specs.Counts.{D, Settings};
 ghost use Rattle.model.specs.BusRule.{answers, held};
+ghost use Rattle.contention.specs.Columns.{phases_by, Sized};
 ghost use Rattle.contention.specs.Views.{as_phases};
 ghost use Rattle.bus.specs.Playing.{use_of, Playable};
 ghost use Rattle.bus.specs.Heads.{Gives, soonest_below, after_of};
@@ -233,7 +234,7 @@ impl Run<'_> {
 
 // The run of a table's phases: end and waits of each, in the order of the phases, at the front of `out`. Choosing a grant takes
 // time in the order of the cores; the phases of a core are searched when its head has sent its words.
-pub fn play(bus: Bus, phases: PhaseColumns<'_>, actual: &[u32], served: u32, out: &mut [u32])
+pub fn play_phases(bus: Bus, phases: PhaseColumns<'_>, actual: &[u32], served: u32, out: &mut [u32])
     requires playable { Playable bus (as_phases phases) served actual.now }
     requires room { 2 * length actual.now ≤ length out.old }
     ensures { out.new ≡ answers bus (as_phases phases.entry) (use_of served actual.now) ++ drop (2 * length actual.now) out.old }
@@ -248,4 +249,31 @@ pub fn play(bus: Bus, phases: PhaseColumns<'_>, actual: &[u32], served: u32, out
     run.open_answers(out);
     run.fill_heads();
     run.grants(bus, served, out);
+}
+
+// The same of columns that may all be longer than there are actual counts. A `PhaseColumns` has as many phases as cores, so it takes
+// the front of these.
+#[tactic(auto, using(contention::proofs::Rivalry::front_count, crate::proofs::Fronts::playable_front, crate::proofs::Fronts::answers_front))]
+pub fn play(
+    bus: Bus,
+    core: &[u32],
+    start: &[u32],
+    end: &[u32],
+    words: &[u32],
+    actual: &[u32],
+    served: u32,
+    out: &mut [u32],
+)
+    requires sized { Sized core.now start.now end.now words.now (length actual.now) }
+    requires playable { Playable bus (phases_by core.now start.now end.now words.now (length actual.now)) served actual.now }
+    requires room { 2 * length actual.now ≤ length out.old }
+    ensures { out.new ≡ answers bus (phases_by core.now start.now end.now words.now (length actual.now)) (use_of served actual.now) ++ drop (2 * length actual.now) out.old }
+{
+    let phases = PhaseColumns {
+        core: &core[..actual.len()],
+        start,
+        end,
+        words,
+    };
+    play_phases(bus, phases, actual, served, out);
 }

@@ -3,14 +3,18 @@
 // they are parameters of their own, and each function asks that place a is within them.
 #![tactic(auto)]
 
-ghost use Rattle.std.specs.Prelude.{◌≡◌, ◌++◌, ◌+◌, ◌*◌, ◌^◌, ◌≤◌, ◌<◌, length, drop};
+ghost use Rattle.std.specs.Prelude.{◌≡◌, ◌++◌, ◌+◌, ◌*◌, ◌^◌, ◌≤◌, ◌<◌, length, take, drop};
 ghost use Rattle.model.specs.Below.{at};
+ghost use Rattle.model.specs.ListRule.{placed};
 ghost use Rattle.contention.specs.Columns.{start_column, end_column};
 ghost use Rattle.placing.specs.Starts.{sent_by, earliest_by, Freed, Closed, with_pair, Prepared};
+ghost use Rattle.placing.specs.Candidates.{candidate_by, Ready, FewCores};
 ghost use Rattle.placing.specs.Views.{as_candidate, placed_in, task_in, RoomIn, StartsIn};
 
 use crate::board::Board;
 use crate::earlier::{Earlier, Task};
+use contention::EdgeColumns;
+use model::Bus;
 
 mod board;
 mod candidate;
@@ -128,7 +132,12 @@ fn put_windows(cost: u32, lengths: &[u32], a: usize, r: u32, start: &mut [u32], 
 }
 
 // Step 2: the windows of all places, in list order.
-pub fn place(candidate: Candidate<'_>, phases: PhaseLoads<'_>, start: &mut [u32], end: &mut [u32])
+pub fn place_phases(
+    candidate: Candidate<'_>,
+    phases: PhaseLoads<'_>,
+    start: &mut [u32],
+    end: &mut [u32],
+)
     requires prepared { Prepared (as_candidate candidate) phases.core.now phases.words.now phases.lengths.now }
     requires starts_room { 2 * length candidate.costs.now ≤ length start.old }
     requires ends_room { 2 * length candidate.costs.now ≤ length end.old }
@@ -145,4 +154,47 @@ pub fn place(candidate: Candidate<'_>, phases: PhaseLoads<'_>, start: &mut [u32]
         put_windows(candidate.costs[a], phases.lengths, a, r, start, end);
         board.stand(&phases, end, a);
     }
+}
+
+// The same of columns that may all be longer than the phases are many. `PhaseLoads` has no more cores than words and lengths, so it
+// takes the front of these.
+pub fn place(
+    bus: Bus,
+    costs: &[u32],
+    sources: &[u8],
+    targets: &[u8],
+    amounts: &[u16],
+    links: &[u16],
+    choices: &[u32],
+    core: &[u32],
+    words: &[u32],
+    lengths: &[u32],
+    start: &mut [u32],
+    end: &mut [u32],
+)
+    requires ready { Ready bus costs.now sources.now targets.now amounts.now links.now choices.now }
+    requires few_cores { FewCores choices.now (length costs.now) }
+    requires prepared { Prepared (candidate_by bus costs.now sources.now targets.now amounts.now choices.now) core.now words.now lengths.now }
+    requires starts_room { 2 * length costs.now ≤ length start.old }
+    requires ends_room { 2 * length costs.now ≤ length end.old }
+    ensures starts { start.new ≡ start_column (length costs.now) (placed (candidate_by bus costs.now sources.now targets.now amounts.now choices.now) (take (2 * length costs.now) lengths.now)) ++ drop (2 * length costs.now) start.old }
+    ensures ends { end.new ≡ end_column (length costs.now) (placed (candidate_by bus costs.now sources.now targets.now amounts.now choices.now) (take (2 * length costs.now) lengths.now)) ++ drop (2 * length costs.now) end.old }
+{
+    let candidate = Candidate {
+        bus,
+        costs,
+        edges: EdgeColumns {
+            sources,
+            targets,
+            amounts,
+        },
+        links,
+        choices,
+    };
+    let phases = PhaseLoads {
+        core: &core[..2 * costs.len()],
+        words,
+        lengths,
+    };
+    place_phases(candidate, phases, start, end);
 }

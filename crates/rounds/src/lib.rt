@@ -77,7 +77,7 @@ fn grow(bus: Bus, phases: PhaseColumns<'_>, lengths: &mut [u32]) -> bool
     ensures grown { lengths.new ≡ list_below (λ x. max (at lengths.old x) (delay_at bus (as_phases phases.entry) x)) (length phases.entry.core.now) ++ drop (length phases.entry.core.now) lengths.old }
 {
     let mut due = [0u32; 128];
-    contention::phase_delays(bus, phases, &mut due);
+    contention::delays_of_phases(bus, phases, &mut due);
     grow_all(&due[..phases.core.len()], lengths)
 }
 
@@ -125,7 +125,7 @@ fn run_rounds(
             words,
             lengths,
         };
-        placing::place(candidate, loads, start, end);
+        placing::place_phases(candidate, loads, start, end);
     }
 }
 
@@ -198,7 +198,7 @@ pub fn settle(
         words,
         lengths,
     };
-    placing::place(candidate, loads, start, end);
+    placing::place_phases(candidate, loads, start, end);
     run_rounds(candidate, core, words, lengths, start, end);
     greatest_end(&end[..2 * candidate.costs.len()])
 }

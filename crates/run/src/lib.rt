@@ -77,6 +77,6 @@ pub fn run(
         end: &end[..count],
         words: most,
     };
-    bus::play(obeyed.bus, phases, words, served, out);
+    bus::play_phases(obeyed.bus, phases, words, served, out);
     Ok(())
 }

@@ -43,7 +43,7 @@ fn windows(planned: &PlannedTable<'_>, phases: PhaseColumns<'_>) -> Result<(), R
     ensures { result ≡ first_bad (window_at planned.now.bus (phases_of (plan_in planned.now) (table_in planned.now))) (2 * length planned.now.costs.now) }
 {
     let mut delays = [0; 128];
-    contention::phase_delays(planned.bus, phases, &mut delays);
+    contention::delays_of_phases(planned.bus, phases, &mut delays);
     each_window(phases, &delays)
 }
 

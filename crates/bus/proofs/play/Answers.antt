@@ -1,11 +1,6 @@
--- `bus::play` meets its contract. The columns before the first grant (proofs/Opening.antt).
-use Rattle.std.proofs.Common.{sym, arith, rules}
-use Rattle.model.proofs.Below.{take_count}
-use Rattle.bus.proofs.Opening.{opened_by}
+-- `bus::play` meets its contract. The front of the cores has the phases.
+use Rattle.bus.proofs.Fronts.{playable_front}
 use Rattle.bus.proofs.play.Goals as goal
 
-pub grants-requires-clause-opened : goal.grants-requires-clause-opened
-grants-requires-clause-opened c =
-    let f = c.fill_heads.ensures in
-    rw (f.phases, f.left)
-    (opened_by _ _ _ _ _ _ _ _ (search rules) f.heads (sym (take_count _ _ (omega arith))) c.open_answers.ensures)
+pub play_phases-requires-clause-playable : goal.play_phases-requires-clause-playable
+play_phases-requires-clause-playable c = playable_front _ _ _ _ _ _ _ c.requires.sized c.requires.playable

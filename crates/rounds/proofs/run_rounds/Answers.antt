@@ -11,12 +11,12 @@ returns-then-not-grow c =
     let g = c.grow.ensures in
     stop_early c.args.candidate _ _ _ c.requires.prepared _ _ _ _ _ _ _ c.loop-n.invariant _ _ g.grew g.grown c.if-not-grow.true
 
-pub place-requires-clause-prepared : goal.place-requires-clause-prepared
-place-requires-clause-prepared c =
+pub place_phases-requires-clause-prepared : goal.place_phases-requires-clause-prepared
+place_phases-requires-clause-prepared c =
     let g = c.grow.ensures in
     prepared_next c.args.candidate _ _ _ c.requires.prepared _ _ _ _ _ _ _ c.loop-n.invariant _ _ g.grew g.grown (c.grow.auto.lengths ∙ c.loop-n.auto.lengths)
 
 pub loop-n-preserved : goal.loop-n-preserved
 loop-n-preserved c =
     let g = c.grow.ensures in
-    go_on c.args.candidate _ _ _ c.requires.prepared _ _ _ _ _ _ _ c.loop-n.invariant _ _ g.grew g.grown _ _ c.place.ensures.starts c.place.ensures.ends
+    go_on c.args.candidate _ _ _ c.requires.prepared _ _ _ _ _ _ _ c.loop-n.invariant _ _ g.grew g.grown _ _ c.place_phases.ensures.starts c.place_phases.ensures.ends

@@ -7,5 +7,5 @@ use Rattle.rounds.proofs.settle.Goals as goal
 pub returns-clause-span : goal.returns-clause-span
 returns-clause-span c = c.greatest_end.ensures ∙ greatest c.args.candidate _ _ c.run_rounds.ensures.ends
 
-pub place-requires-clause-prepared : goal.place-requires-clause-prepared
-place-requires-clause-prepared c = prepared_front c.args.candidate _ _ _ c.prepare.ensures.prepared
+pub place_phases-requires-clause-prepared : goal.place_phases-requires-clause-prepared
+place_phases-requires-clause-prepared c = prepared_front c.args.candidate _ _ _ c.prepare.ensures.prepared

@@ -24,18 +24,18 @@ pub returns-in_err-run_check-clause-output : goal.returns-in_err-run_check-claus
 returns-in_err-run_check-clause-output c =
     (unplayed_at _ _ (sym c.in_ok-obeyed.ensures.answer) _ _ _ _ _ _ _ _ c.judge.ensures.phases c.args.served _ _ _ c.run_check.ensures c.in_err-run_check.was).1
 
-pub play-requires-clause-playable : goal.play-requires-clause-playable
-play-requires-clause-playable c =
+pub play_phases-requires-clause-playable : goal.play_phases-requires-clause-playable
+play_phases-requires-clause-playable c =
     playable_at _ _ (sym c.in_ok-obeyed.ensures.answer) _ _ _ _ _ _ _ _ c.judge.ensures.phases c.args.served _ c.args.out.now _ c.run_check.ensures c.in_ok-run_check.was
 
-pub play-requires-clause-room : goal.play-requires-clause-room
-play-requires-clause-room c =
+pub play_phases-requires-clause-room : goal.play_phases-requires-clause-room
+play_phases-requires-clause-room c =
     room_at _ _ (sym c.in_ok-obeyed.ensures.answer) _ _ _ _ _ _ _ _ c.judge.ensures.phases c.args.served _ c.args.out.now _ c.run_check.ensures c.in_ok-run_check.was
 
 pub returns-clause-answer : goal.returns-clause-answer
 returns-clause-answer c =
-    (played_at _ _ (sym c.in_ok-obeyed.ensures.answer) _ _ _ _ _ _ _ _ c.judge.ensures.phases c.args.served _ _ _ c.run_check.ensures c.in_ok-run_check.was _ c.play.ensures).0
+    (played_at _ _ (sym c.in_ok-obeyed.ensures.answer) _ _ _ _ _ _ _ _ c.judge.ensures.phases c.args.served _ _ _ c.run_check.ensures c.in_ok-run_check.was _ c.play_phases.ensures).0
 
 pub returns-clause-output : goal.returns-clause-output
 returns-clause-output c =
-    (played_at _ _ (sym c.in_ok-obeyed.ensures.answer) _ _ _ _ _ _ _ _ c.judge.ensures.phases c.args.served _ _ _ c.run_check.ensures c.in_ok-run_check.was _ c.play.ensures).1
+    (played_at _ _ (sym c.in_ok-obeyed.ensures.answer) _ _ _ _ _ _ _ _ c.judge.ensures.phases c.args.served _ _ _ c.run_check.ensures c.in_ok-run_check.was _ c.play_phases.ensures).1

@@ -1,8 +1,8 @@
--- `placing::place` meets its contract. The windows of the places passed stand in the columns.
+-- `placing::place_phases` meets its contract. The windows of the places passed stand in the columns.
 use Rattle.placing.specs.Starts.{Freed, Closed}
 use Rattle.placing.specs.Views.{placed_in}
 use Rattle.placing.proofs.Places.{Done}
-use Rattle.placing.proofs.place.Given as goal
+use Rattle.placing.proofs.place_phases.Given as goal
 
 abbrev pub invariant-loop-a : goal.invariant-loop-a
 invariant-loop-a l =

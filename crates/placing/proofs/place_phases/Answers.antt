@@ -1,6 +1,6 @@
--- `placing::place` meets its contract. The windows of the places passed stand in the columns.
+-- `placing::place_phases` meets its contract. The windows of the places passed stand in the columns.
 use Rattle.placing.proofs.Places.{done_none, freed_none, closed_none, done_kept, freed_more, closed_more, room_next, start_fits, done_more, done_all}
-use Rattle.placing.proofs.place.Goals as goal
+use Rattle.placing.proofs.place_phases.Goals as goal
 
 pub loop-a-init : goal.loop-a-init
 loop-a-init c = record { done = done_none _ _ _; freed = freed_none _ _; closed = closed_none _ _ }
